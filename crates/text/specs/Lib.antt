@@ -1,0 +1,7 @@
+pub mod Names
+pub mod Forms
+pub mod Prefixes
+pub mod Laws
+pub mod Machines
+pub mod Readers
+pub mod Views
