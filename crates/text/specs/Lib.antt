@@ -5,3 +5,4 @@ pub mod Laws
 pub mod Machines
 pub mod Readers
 pub mod Views
+pub mod Examples

@@ -14,6 +14,7 @@ macro_rules! inner {
     };
 }
 
+pub mod examples;
 pub mod faults;
 pub mod names;
 pub mod parts;
