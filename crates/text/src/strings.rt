@@ -1,9 +1,10 @@
 // The reader of feature strings.
 ghost use mathlib.Core.Path.{_≡_};
+ghost use Prim.Native.Nat.{_≤_};
 ghost use lib.ListN.{length};
 ghost use Rattle.text.specs.Laws.{FormLaw};
-ghost use Rattle.text.specs.Readers.{spelling, step, finish, Room, readForm};
-ghost use Rattle.text.specs.Views.{mapped, form};
+ghost use Rattle.text.specs.Readers.{spelling, step, from, upto, finish, Room, readForm};
+ghost use Rattle.text.specs.Views.{mapped, piece, form};
 use crate::faults::StringFault;
 use crate::names::LONGEST_NAME;
 use crate::parts::FeatureString;
@@ -17,19 +18,19 @@ enum Link {
     Weak,
 }
 
-// Where the reader stands. `len` counts the bytes of the name that it is in, `cut` those before the link.
+// Where the reader stands.
 #[derive(Clone, Copy)]
 enum State {
     // nothing is read
     Start,
-    // in the first name; `dep` says whether it begins the word dep
-    First { len: usize, dep: bool },
-    // after the first name and `?`
-    Asked { cut: usize },
-    // before the last name
-    Second { link: Link, cut: usize },
-    // in the last name
-    Last { link: Link, cut: usize, len: usize },
+    // in the first name: how many bytes of it are read, and whether they begin the word dep
+    First(usize, bool),
+    // after the first name, which has so many bytes, and `?`
+    Asked(usize),
+    // before the last name: the link, and how many bytes the first name has, or `dep`
+    Second(Link, usize),
+    // in the last name: the same, and how many bytes of the last name are read
+    Last(Link, usize, usize),
 }
 
 // Whether `c` is the letter of the word dep at the place `len`, where `dep` says that those before it are there.
@@ -49,51 +50,51 @@ fn next(state: State, c: char) -> Option<State>
     ensures { λ r. ⌜ r ≡ step state c ⌝ }
 {
     match (state, c) {
-        (State::Start, initial!()) => Some(State::First {
-            len: 1,
-            dep: spells_dep(true, 0, c),
-        }),
-        (
-            State::First {
-                len: len @ 0..LONGEST_NAME,
-                dep,
-            },
-            inner!(),
-        ) => {
-            Some(State::First {
-                len: len + 1,
-                dep: spells_dep(dep, len, c),
-            })
-        }
-        (State::First { len: 3, dep: true }, ':') => Some(State::Second {
-            link: Link::Switch,
-            cut: 3,
-        }),
-        (State::First { len, .. }, '/') => Some(State::Second {
-            link: Link::Strong,
-            cut: len,
-        }),
-        (State::First { len, .. }, '?') => Some(State::Asked { cut: len }),
-        (State::Asked { cut }, '/') => Some(State::Second {
-            link: Link::Weak,
+        (State::Start, initial!()) => Some(State::First(1, spells_dep(true, 0, c))),
+        (State::First(len @ 0..LONGEST_NAME, dep), inner!()) => Some(State::First(
+            len + 1,
+            spells_dep(dep, len, c),
+        )),
+        (State::First(3, true), ':') => Some(State::Second(Link::Switch, 3)),
+        (State::First(len, _), '/') => Some(State::Second(Link::Strong, len)),
+        (State::First(len, _), '?') => Some(State::Asked(len)),
+        (State::Asked(cut), '/') => Some(State::Second(Link::Weak, cut)),
+        (State::Second(link, cut), initial!()) => Some(State::Last(link, cut, 1)),
+        (State::Last(link, cut, len @ 0..LONGEST_NAME), inner!()) => Some(State::Last(
+            link,
             cut,
-        }),
-        (State::Second { link, cut }, initial!()) => Some(State::Last { link, cut, len: 1 }),
-        (
-            State::Last {
-                link,
-                cut,
-                len: len @ 0..LONGEST_NAME,
-            },
-            inner!(),
-        ) => {
-            Some(State::Last {
-                link,
-                cut,
-                len: len + 1,
-            })
-        }
+            len + 1,
+        )),
         _ => None,
+    }
+}
+
+// The part of a string before a place.
+fn part_before<'a>(text: &'a [u8], at: usize) -> Part<'a>
+    requires { ⌜ at ≤ length (now text) ⌝ }
+    ensures { λ r. ⌜ piece r ≡ upto at (now (text .entry)) ⌝ }
+{
+    let bytes = &text[0..at];
+    Part { at: 0, bytes }
+}
+
+// The part of a string from a place on.
+fn part_from<'a>(text: &'a [u8], at: usize) -> Part<'a>
+    requires { ⌜ at ≤ length (now text) ⌝ }
+    ensures { λ r. ⌜ piece r ≡ from at (now (text .entry)) ⌝ }
+{
+    let bytes = &text[at..];
+    Part { at, bytes }
+}
+
+// The name after `dep:`.
+fn part_switched<'a>(text: &'a [u8]) -> Part<'a>
+    requires { ⌜ 4 ≤ length (now text) ⌝ }
+    ensures { λ r. ⌜ piece r ≡ from 4 (now (text .entry)) ⌝ }
+{
+    match text {
+        [_d, _e, _p, _colon, name @ ..] => Part { at: 4, bytes: name },
+        _ => unreachable(),
     }
 }
 
@@ -103,50 +104,34 @@ fn ended<'a>(state: State, text: &'a [u8]) -> Result<FeatureString<'a>, StringFa
     ensures { λ r. ⌜ mapped form r ≡ finish state (now (text .entry)) ⌝ }
 {
     match state {
-        State::First { .. } => Ok(FeatureString::Plain {
-            feature: Part { at: 0, bytes: text },
-        }),
-        State::Last {
-            link: Link::Switch,
-            cut: _cut,
-            len: _len,
-        } => match text {
-            [_d, _e, _p, _colon, name @ ..] => Ok(FeatureString::Switch {
-                dependency: Part { at: 4, bytes: name },
-            }),
-            _ => unreachable(),
-        },
-        State::Last {
-            link: Link::Strong,
-            cut,
-            len: _len,
-        } => Ok(FeatureString::Strong {
-            dependency: Part {
-                at: 0,
-                bytes: &text[0..cut],
-            },
-            feature: Part {
-                at: cut + 1,
-                bytes: &text[cut + 1..],
-            },
-        }),
-        State::Last {
-            link: Link::Weak,
-            cut,
-            len: _len,
-        } => Ok(FeatureString::Weak {
-            dependency: Part {
-                at: 0,
-                bytes: &text[0..cut],
-            },
-            feature: Part {
-                at: cut + 2,
-                bytes: &text[cut + 2..],
-            },
-        }),
-        State::Start | State::Asked { .. } | State::Second { .. } => Err(StringFault::NoForm {
-            prefix: text.len(),
-        }),
+        State::First(_len, _dep) => {
+            let feature = Part { at: 0, bytes: text };
+            Ok(FeatureString::Plain { feature })
+        }
+        State::Last(Link::Switch, _cut, _len) => {
+            let dependency = part_switched(text);
+            Ok(FeatureString::Switch { dependency })
+        }
+        State::Last(Link::Strong, cut, _len) => {
+            let dependency = part_before(text, cut);
+            let feature = part_from(text, cut + 1);
+            Ok(FeatureString::Strong {
+                dependency,
+                feature,
+            })
+        }
+        State::Last(Link::Weak, cut, _len) => {
+            let dependency = part_before(text, cut);
+            let feature = part_from(text, cut + 2);
+            Ok(FeatureString::Weak {
+                dependency,
+                feature,
+            })
+        }
+        State::Start | State::Asked(_) | State::Second(_, _) => {
+            let prefix = text.len();
+            Err(StringFault::NoForm { prefix })
+        }
     }
 }
 
