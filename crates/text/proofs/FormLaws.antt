@@ -21,7 +21,7 @@ use Rattle.text.specs.declared.strings.Link.the-variants.{Switch, Strong, Weak
 use Rattle.text.specs.declared.strings.State.{State}
 use Rattle.text.specs.declared.strings.State.the-variants.{Start, First, Asked, Second, Last}
 use Rattle.text.specs.Names.{initial, inner, longest, Name}
-use Rattle.text.specs.Forms.{Form, plain, switch, strong, weak, Lawful, spell, Piece, whole, placed}
+use Rattle.text.specs.Forms.{Form, plain, switch, strong, weak, Lawful, spell, Piece, whole, placed, unplaced}
 use Rattle.text.specs.Prefixes.{Begins, Longest}
 use Rattle.text.specs.Laws.{FormLaw}
 use Rattle.text.specs.Readers.{slash, question, colon, spelling, step, finish, from, upto, readForm}
@@ -154,15 +154,7 @@ at-end (Last Weak cut len) t b =
     let p = parted n (question ∷ slash ∷ b .1) cut 2 (b .3 .3) in
     (weak n (b .1), o .1, e, ap (λ x. weak (upto cut x) (from (cut + 2) x)) e ∙ (λ i. weak (p .0 i) (p .1 i)))
 
--- the form without the places
-unplaced : Form Piece → Form (List ℕ)
-unplaced (plain g) = plain (g .text)
-unplaced (switch n) = switch (n .text)
-unplaced (strong n g) = strong (n .text) (g .text)
-unplaced (weak n g) = weak (n .text) (g .text)
-
-unplaced-placed : (f : Form (List ℕ)) → unplaced (placed f) ≡ f
-unfolding unplaced
+pub unplaced-placed : (f : Form (List ℕ)) → unplaced (placed f) ≡ f
 unplaced-placed (plain g) = refl
 unplaced-placed (switch n) = refl
 unplaced-placed (strong n g) = refl

@@ -41,3 +41,10 @@ placed (plain g) = plain (whole g)
 placed (switch n) = switch (record { place = 4; text = n })
 placed (strong n g) = strong (whole n) (record { place = length n + 1; text = g })
 placed (weak n g) = weak (whole n) (record { place = length n + 2; text = g })
+
+-- the form without the places
+abbrev pub unplaced : Form Piece → Form (List ℕ)
+unplaced (plain g) = plain (g .text)
+unplaced (switch n) = switch (n .text)
+unplaced (strong n g) = strong (n .text) (g .text)
+unplaced (weak n g) = weak (n .text) (g .text)

@@ -1,0 +1,4 @@
+pub mod Cuts
+pub mod Takes
+pub mod Manys
+pub mod Lists

@@ -1,0 +1,4 @@
+pub mod Graphs
+pub mod Frames
+pub mod Fields
+pub mod Bodies
