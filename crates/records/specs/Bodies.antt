@@ -69,9 +69,9 @@ packageView p = record { proc = p .«proc_mark»; name = p .name .bytes .now }
 abbrev pub packageField : Field Head
 packageField =
     andThen switchField (λ proc.
-    andThen nameField (λ name.
+    andThen nameText (λ name.
     andThen closedField (λ _.
-    give (record { proc = proc; name = name .text }))))
+    give (record { proc = proc; name = name }))))
 
 -- a dependency: end, edge kind, optional, defaults, name, asks
 abbrev pub dependencyView : DependencyBody → Dependency
@@ -90,7 +90,7 @@ dependencyField =
     andThen edgeField (λ edge.
     andThen switchField (λ optional.
     andThen switchField (λ defaults.
-    andThen nameField (λ name.
+    andThen nameText (λ name.
     andThen namesField (λ asks.
     andThen closedField (λ _.
-    give (record { end = end; edge = edge; optional = optional; defaults = defaults; name = name .text; asks = asks }))))))))
+    give (record { end = end; edge = edge; optional = optional; defaults = defaults; name = name; asks = asks }))))))))

@@ -1,4 +1,5 @@
 pub mod Graphs
+pub mod Encoding
 pub mod Frames
 pub mod Fields
 pub mod Bodies

@@ -4,6 +4,16 @@ ghost use Rattle.text.specs.Views.{mapped};
 ghost use Rattle.records.specs.Frames.{frame, frameOf};
 use crate::faults::RecordFault;
 
+// The kinds of records.
+#[derive(Clone, Copy)]
+pub enum Kind {
+    Header,
+    Package,
+    Dependency,
+    Feature,
+    End,
+}
+
 // A record's kind, its body, and the bytes after it.
 #[derive(Clone, Copy)]
 pub struct Frame<'a> {
