@@ -1,0 +1,3 @@
+// Graph files: opening one, and its rule rows.
+mod index;
+mod lookup;
