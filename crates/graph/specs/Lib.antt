@@ -1,1 +1,3 @@
 pub mod Keys
+pub mod Reading
+pub mod Law

@@ -11,8 +11,9 @@ use Rattle.text.specs.Readers.{readForm}
 use Rattle.records.specs.declared.strings.Strings.{Strings}
 use Rattle.records.specs.declared.bodies.Package.{Package as PackageBody}
 use Rattle.records.specs.declared.bodies.Dependency.{Dependency as DependencyBody}
+use Rattle.records.specs.declared.bodies.Feature.{Feature as FeatureBody}
 use Rattle.records.specs.Fields.{Field, andThen, give, byteField, wordField, nameField, formField, switchField, edgeField, closedField}
-use Rattle.records.specs.Graphs.{Dependency}
+use Rattle.records.specs.Graphs.{Dependency, Feature}
 
 -- so many of one field
 abbrev pub many : {A : Type 0} → Field A → ℕ → Field (List A)
@@ -72,6 +73,9 @@ packageField =
     andThen nameText (λ name.
     andThen closedField (λ _.
     give (record { proc = proc; name = name }))))
+
+abbrev pub featureView : FeatureBody → Feature
+featureView f = record { name = f .name .bytes .now; values = forms (f .values) }
 
 -- a dependency: end, edge kind, optional, defaults, name, asks
 abbrev pub dependencyView : DependencyBody → Dependency

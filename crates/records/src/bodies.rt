@@ -25,3 +25,9 @@ pub struct Dependency<'a> {
     pub name: Part<'a>,
     pub asks: Strings<'a>,
 }
+
+#[derive(Clone, Copy)]
+pub struct Feature<'a> {
+    pub name: Part<'a>,
+    pub values: Strings<'a>,
+}
