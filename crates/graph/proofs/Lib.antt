@@ -1,1 +1,9 @@
 pub mod Links
+pub mod Scans
+pub mod Founds
+pub mod Gathers
+pub mod Allowances
+pub mod Sequels
+pub mod FirstSound
+pub mod FirstComplete
+pub mod FirstLaw

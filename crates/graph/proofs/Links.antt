@@ -8,21 +8,23 @@ use native.Mathlib.Omega.{arith}
 use lib.Dec.{eqb}
 use lib.ListN.{length, take, drop, getD, set, replicate}
 use Rattle.std.proofs.shelf.Equals.{sameBytes-decides}
-use Rattle.std.proofs.shelf.Lists.{getD-set-same, getD-set-other, length-set, take-more-set, map-push, take-set}
-use Rattle.std.proofs.shelf.Tests.{eqb-true, eq-eqb, and-parts, cases-bool, cases-eq, cases-lt, true≢false}
+use Rattle.std.proofs.shelf.Lists.{getD-set-same, getD-set-other, length-set, take-more-set, map-push, length-map, length-take-le, getD-map, getD-take}
+use Rattle.std.proofs.shelf.Tests.{eqb-true, eq-eqb, and-parts, cases-bool, cases-eq, cases-lt, or-from, or-left, or-right}
 use Rattle.std.specs.shelf.Text.{sameBytes}
+use Rattle.std.specs.Options.{isSome}
 use Rattle.std.specs.declared.option.Option.{Option}
 use Rattle.std.specs.declared.option.Option.the-variants.{Some, None}
 use Rattle.graph.specs.declared.index.Entry.{Entry}
-use Rattle.graph.specs.Keys.{Key, isKey, hasKey, hashFrom, bucketOf, keyOf, blank, entryAt, keysOf, bucketAt, Linked, Finds}
+use Rattle.graph.specs.Keys.{Key, isKey, hasKey, hashFrom, bucketOf, keyOf, blank, entryAt, keysOf, bucketAt, mostFeatures, Linked, Finds}
 
 pub zeros : (n h : ℕ) → _≡_ {A = ℕ} (getD (replicate n 0) h 0) 0
 zeros zero h = refl
 zeros (suc n) zero = refl
 zeros (suc n) (suc h) = zeros n h
 
-pub linked-none : (file : List ℕ) (entries : List Entry) (heads : List ℕ) → ((h : ℕ) → getD heads h 0 ≡ 0) → Linked file entries heads 0
-linked-none file entries heads z = record {
+pub linked-none : (file : List ℕ) (entries : List Entry) (heads : List ℕ) → length entries ≡ mostFeatures → ((h : ℕ) → getD heads h 0 ≡ 0) → Linked file entries heads 0
+linked-none file entries heads f z = record {
+  full = f;
   within = λ k l. absurd (omega arith);
   newest = λ k l. absurd (omega arith);
   headed = λ h l. absurd (omega (arith, z h));
@@ -181,7 +183,34 @@ module _ (file : List ℕ) (entries : List Entry) (heads : List ℕ) (n : ℕ) (
       (either k l)
 
   pub linked-more : Linked file (set entries n e) (set heads h (n + 1)) (n + 1)
-  linked-more = record { within = more-within; newest = more-newest; headed = more-headed; between = more-between; nexted = more-nexted }
+  linked-more = record { full = length-set entries n e ∙ linked .full; within = more-within; newest = more-newest; headed = more-headed; between = more-between; nexted = more-nexted }
 
   pub keys-more : keysOf file (set entries n e) (n + 1) ≡ keysOf file entries n ++ keyOf file e ∷ []
   keys-more = ap (map (keyOf file)) (take-more-set entries n e room) ∙ map-push (keyOf file) (take n entries) e
+
+-- a key among some
+has-none : (owner : ℕ) (name : List ℕ) (ks : List Key) (d : Key) → ((k : ℕ) → k < length ks → isKey owner name (getD ks k d) ≡ false) → hasKey owner name ks ≡ false
+has-none owner name [] d f = refl
+has-none owner name (x ∷ ks) d f = or-from (isKey owner name x) (hasKey owner name ks) (f 0 (omega arith)) (has-none owner name ks d (λ k l. f (suc k) (omega arith)))
+
+has-some : (owner : ℕ) (name : List ℕ) (ks : List Key) (d : Key) (k : ℕ) → k < length ks → isKey owner name (getD ks k d) ≡ true → hasKey owner name ks ≡ true
+has-some owner name [] d k l e = absurd (omega arith)
+has-some owner name (x ∷ ks) d zero l e = or-left (isKey owner name x) (hasKey owner name ks) e
+has-some owner name (x ∷ ks) d (suc k) l e = or-right (isKey owner name x) (hasKey owner name ks) (has-some owner name ks d k (omega arith) e)
+
+pub keys-length : (file : List ℕ) (entries : List Entry) (n : ℕ) → n ≤ length entries → length (keysOf file entries n) ≡ n
+keys-length file entries n l = length-map (take n entries) (keyOf file) ∙ length-take-le n entries l
+
+keys-at : (file : List ℕ) (entries : List Entry) (n k : ℕ) → n ≤ length entries → k < n → getD (keysOf file entries n) k (keyOf file blank) ≡ keyOf file (entryAt entries k)
+keys-at file entries n k l m =
+    let w : k < length (take n entries) = omega (arith, length-take-le n entries l) in
+    getD-map (keyOf file) (take n entries) k blank (keyOf file blank) w ∙ ap (keyOf file) (getD-take n entries k blank m)
+
+-- a search finds something exactly if there is a feature of that package and name
+pub finds-has : (file : List ℕ) (entries : List Entry) (n owner : ℕ) (name : List ℕ) (r : Option ℕ) → n ≤ length entries → Finds file entries n owner name r → isSome r ≡ hasKey owner name (keysOf file entries n)
+finds-has file entries n owner name None l f =
+    sym (has-none owner name (keysOf file entries n) (keyOf file blank) (λ k m.
+    let w : k < n = omega (arith, keys-length file entries n l) in
+    ap (isKey owner name) (keys-at file entries n k l w) ∙ f k w))
+finds-has file entries n owner name (Some k) l f =
+    sym (has-some owner name (keysOf file entries n) (keyOf file blank) k (omega (arith, keys-length file entries n l, f .0)) (ap (isKey owner name) (keys-at file entries n k l (f .0)) ∙ f .1))

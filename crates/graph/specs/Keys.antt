@@ -46,8 +46,13 @@ keysOf file entries n = map (keyOf file) (take n entries)
 abbrev pub bucketAt : List ℕ → List Entry → ℕ → ℕ
 bucketAt file entries k = bucketOf (keyOf file (entryAt entries k) .owner) (keyOf file (entryAt entries k) .name)
 
+-- how many features the index has room for
+abbrev pub mostFeatures : ℕ
+mostFeatures = 16384
+
 -- The lists of the buckets are whole: of the first n features,
 pub record Linked (file : List ℕ) (entries : List Entry) (heads : List ℕ) (n : ℕ) : Type 0 where
+  pub full : length entries ≡ mostFeatures
   -- each name lies in the file;
   pub within : (k : ℕ) → k < n → entryAt entries k .at + entryAt entries k .len ≤ length file
   -- none is newer than the head of its bucket, which is one of that bucket;

@@ -8,7 +8,8 @@ use Rattle.std.specs.declared.result.Result.the-variants.{Ok}
 use Rattle.text.specs.Names.{Name}
 use Rattle.records.specs.Graphs.{Dependency, Feature, Part, dependency, feature, Package, Graph}
 use Rattle.records.specs.Encoding.{encode, LawfulDependency, LawfulFeature}
-use Rattle.graph.specs.Reading.{mostBytes, mostPackages, mostDependencies, mostFeatures, firstReading}
+use Rattle.graph.specs.Reading.{mostBytes, mostPackages, mostDependencies, firstReading}
+use Rattle.graph.specs.Keys.{mostFeatures}
 
 -- the dependencies and the features among the parts of a package, in order
 abbrev pub dependenciesIn : List Part → List Dependency

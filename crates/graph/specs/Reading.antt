@@ -20,7 +20,7 @@ use Rattle.records.specs.Graphs.{Dependency, Feature, Part, dependency, feature
 use Rattle.graph.specs.declared.faults.InRecord.{InRecord}
 use Rattle.graph.specs.declared.faults.FileFault.{FileFault}
 use Rattle.graph.specs.declared.faults.FileFault.the-variants.{Record, Size}
-use Rattle.graph.specs.Keys.{Key, hasKey}
+use Rattle.graph.specs.Keys.{Key, hasKey, mostFeatures}
 
 -- the limits of a graph file
 abbrev pub mostBytes : ℕ
@@ -31,9 +31,6 @@ mostPackages = 4096
 
 abbrev pub mostDependencies : ℕ
 mostDependencies = 16384
-
-abbrev pub mostFeatures : ℕ
-mostFeatures = 16384
 
 -- what a record says
 pub data Content : Type 0 where
@@ -115,6 +112,12 @@ withFrame st (Err e) = Err (inRecord st e)
 abbrev pub recordAt : Stand → List ℕ → Result Found InRecord
 recordAt st bs = withFrame st (frameOf bs)
 
+abbrev pub isEnd : Content → Bool
+isEnd header = false
+isEnd (heads h) = false
+isEnd (part p) = false
+isEnd end = true
+
 -- how a reading stands after a record
 abbrev pub packagesAfter : Content → ℕ → ℕ
 packagesAfter header n = n
@@ -138,12 +141,12 @@ keysAfter end owner ks = ks
 
 abbrev pub after : Stand → Found → Stand
 after st x = record {
-    number = st .number + 1;
-    start = st .start + (length (x .frame .body) + 6);
-    packages = packagesAfter (x .content) (st .packages);
-    dependencies = dependenciesAfter (x .content) (st .dependencies);
-    keys = keysAfter (x .content) (st .packages - 1) (st .keys);
-  }
+  number = st .number + 1;
+  start = st .start + (length (x .frame .body) + 6);
+  packages = packagesAfter (x .content) (st .packages);
+  dependencies = dependenciesAfter (x .content) (st .dependencies);
+  keys = keysAfter (x .content) (st .packages - 1) (st .keys);
+}
 
 -- what is left of a graph: what more belongs to the package at hand, and the packages after it
 pub record Rest : Type 0 where

@@ -1,6 +1,6 @@
 // Graph files: opening one, and its rule rows.
-pub mod faults;
 mod contents;
+pub mod faults;
 mod index;
 mod lookup;
 mod reading;

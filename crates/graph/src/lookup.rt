@@ -2,9 +2,10 @@
 ghost use mathlib.Core.Path.{_≡_};
 ghost use mathlib.Core.List.{List, _∷_, [], _++_};
 ghost use Prim.Native.Nat.{ℕ, _+_, _<_, _≤_};
+ghost use lib.Dec.{leb};
 ghost use lib.ListN.{length, take, drop};
 ghost use Rattle.std.specs.shelf.Text.{sameBytes};
-ghost use Rattle.graph.specs.Keys.{isKey, keyOf, keysOf, entryAt, bucketOf, Linked, Finds};
+ghost use Rattle.graph.specs.Keys.{isKey, hasKey, keyOf, keysOf, entryAt, bucketOf, mostFeatures, Linked, Finds};
 use crate::index::BUCKETS;
 use crate::index::Entry;
 use crate::index::Index;
@@ -75,6 +76,24 @@ impl<'a> Index<'a> {
             upto = self.entries[k as usize].next;
         }
         None
+    }
+
+    // Whether there is a feature of this package and name.
+    pub(crate) fn has(&self, owner: u32, name: &[u8]) -> bool
+        requires linked { ⌜ Linked (now (now self .file)) (now self .entries) (now self .heads) (now self .count) ⌝ }
+        requires few { ⌜ now self .count ≤ 16384 ⌝ }
+        ensures { λ r. ⌜ r ≡ hasKey owner (now (name .entry)) (keysOf (now (now (self .entry) .file)) (now (self .entry) .entries) (now (self .entry) .count)) ⌝ }
+    {
+        self.find(owner, name).is_some()
+    }
+
+    // Whether there is no room for a feature more.
+    pub(crate) fn is_full(&self) -> bool
+        requires linked { ⌜ Linked (now (now self .file)) (now self .entries) (now self .heads) (now self .count) ⌝ }
+        requires few { ⌜ now self .count ≤ 16384 ⌝ }
+        ensures { λ r. ⌜ r ≡ leb mostFeatures (length (keysOf (now (now (self .entry) .file)) (now (self .entry) .entries) (now (self .entry) .count))) ⌝ }
+    {
+        self.count as usize >= MAX_FEATURES
     }
 
     // One feature more: its package, and the place and length of its name.
