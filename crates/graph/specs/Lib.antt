@@ -3,3 +3,8 @@ pub mod Reading
 pub mod Law
 pub mod Views
 pub mod Gathered
+pub mod Places
+pub mod Rules
+pub mod Second
+pub mod Opening
+pub mod Directory

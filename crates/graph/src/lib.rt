@@ -4,3 +4,5 @@ pub mod faults;
 mod index;
 mod lookup;
 mod reading;
+pub mod rows;
+mod tables;

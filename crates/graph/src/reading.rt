@@ -17,6 +17,8 @@ use crate::faults::FileFault;
 use crate::faults::FileFaultFromRecord;
 use crate::faults::InRecord;
 use crate::index::Index;
+use crate::tables::MAX_DEPENDENCIES;
+use crate::tables::MAX_PACKAGES;
 use records::bodies::Feature;
 use records::faults::RecordFault;
 use records::frames::Frame;
@@ -26,9 +28,9 @@ use records::reader::Reader;
 
 const MAX_BYTES: usize = 1_048_576;
 
-const MAX_PACKAGES: u32 = 4_096;
+const MOST_PACKAGES: u32 = MAX_PACKAGES as u32;
 
-const MAX_DEPENDENCIES: u32 = 16_384;
+const MOST_DEPENDENCIES: u32 = MAX_DEPENDENCIES as u32;
 
 // Where the name of a feature begins in its record: after length, kind and the name's own length.
 const NAME_PLACE: usize = 7;
@@ -90,9 +92,9 @@ fn content<'a>(
             body.header()?;
             Ok(Content::Header)
         }
-        Kind::Package if stand.packages >= MAX_PACKAGES => Err(RecordFault::Many),
+        Kind::Package if stand.packages >= MOST_PACKAGES => Err(RecordFault::Many),
         Kind::Package => Ok(Content::Package(body.package()?)),
-        Kind::Dependency if stand.dependencies >= MAX_DEPENDENCIES => Err(RecordFault::Many),
+        Kind::Dependency if stand.dependencies >= MOST_DEPENDENCIES => Err(RecordFault::Many),
         Kind::Dependency => Ok(Content::Dependency(body.dependency()?)),
         Kind::Feature if index.is_full() => Err(RecordFault::Many),
         Kind::Feature => {

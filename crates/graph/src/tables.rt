@@ -1,0 +1,36 @@
+// The tables of a directory.
+use crate::contents::Counts;
+use crate::index::Index;
+
+// The most packages and dependencies of a graph, and the most of dependencies and features together.
+pub(crate) const MAX_PACKAGES: usize = 4_096;
+
+pub(crate) const MAX_DEPENDENCIES: usize = 16_384;
+
+pub(crate) const MAX_PARTS: usize = 32_768;
+
+// A package: its proc mark, and the numbers of its first dependency and of its first feature.
+#[derive(Clone, Copy)]
+pub(crate) struct PackageEntry {
+    pub proc_mark: bool,
+    pub dependency: u32,
+    pub feature: u32,
+}
+
+// A dependency or feature record: its start in the file, and the number of its package.
+#[derive(Clone, Copy)]
+pub(crate) struct PartEntry {
+    pub start: u32,
+    pub owner: u32,
+}
+
+// Where everything stands in a graph file that the first reading has accepted: the packages, the starts of the
+// dependency records, the starts of all dependency and feature records in file order, and the features by package
+// and name.
+pub(crate) struct Directory<'a> {
+    pub index: Index<'a>,
+    pub counts: Counts,
+    pub packages: [PackageEntry; MAX_PACKAGES],
+    pub dependencies: [u32; MAX_DEPENDENCIES],
+    pub parts: [PartEntry; MAX_PARTS],
+}
