@@ -119,7 +119,7 @@ package-says bs k h w fit e =
     let s = package-closed .sound bs k h w fit e in
     (s .1 .1 .0, s .2 ∙ ap (λ z. (bit (h .proc) ∷ []) ++ z) (append-nil (string (h .name))))
 
-package-reads : (h : Head) (k : ℕ) → Name (h .name) → (w : View) × (packageField (at (packageBody (h .proc) (h .name)) k) ≡ Ok (h, w))
+pub package-reads : (h : Head) (k : ℕ) → Name (h .name) → (w : View) × (packageField (at (packageBody (h .proc) (h .name)) k) ≡ Ok (h, w))
 package-reads h k law =
     let s = package-closed .complete h k tt (tt, (law, tt)) in
     (s .0, ap (λ z. packageField (at ((bit (h .proc) ∷ []) ++ z) k)) (sym (append-nil (string (h .name)))) ∙ s .1)
@@ -134,7 +134,7 @@ dependency-says bs k d w fit e =
     let g = s .1 .1 .1 .1 .1 in
     ((s .1 .0, g .0, g .1 .0 .0, g .1 .0 .1), s .2 ∙ ap (asksLast d) (append-nil (listBytes string (d .asks))))
 
-dependency-reads : (d : Dependency) (k : ℕ) → LawfulDependency d → (w : View) × (dependencyField (at (dependencyBody d) k) ≡ Ok (d, w))
+pub dependency-reads : (d : Dependency) (k : ℕ) → LawfulDependency d → (w : View) × (dependencyField (at (dependencyBody d) k) ≡ Ok (d, w))
 dependency-reads d k law =
     let s = dependency-closed .complete d k tt (law .0, (tt, (tt, (tt, (law .1, ((law .2, law .3), tt)))))) in
     (s .0, ap (λ z. dependencyField (at (asksLast d z) k)) (sym (append-nil (listBytes string (d .asks)))) ∙ s .1)

@@ -7,3 +7,5 @@ pub mod Sequels
 pub mod FirstSound
 pub mod FirstComplete
 pub mod FirstLaw
+pub mod PartsAgain
+pub mod SheetRows

@@ -8,3 +8,5 @@ pub mod Rules
 pub mod Second
 pub mod Opening
 pub mod Directory
+pub mod Sheets
+pub mod Parts

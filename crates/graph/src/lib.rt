@@ -3,6 +3,8 @@ mod contents;
 pub mod faults;
 mod index;
 mod lookup;
+mod parts;
 mod reading;
 pub mod rows;
+mod sheets;
 mod tables;

@@ -6,3 +6,4 @@ pub mod Numbers
 pub mod Framing
 pub mod Codes
 pub mod CodedFields
+pub mod Listings

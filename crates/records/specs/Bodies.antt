@@ -3,6 +3,9 @@ use mathlib.Core.Bool.{Bool}
 use mathlib.Core.List.{List, [], _∷_, map}
 use Prim.Native.Nat.{ℕ, zero, suc}
 use lib.ListN.{take, drop}
+use denote.Ref.{RefT}
+use Rattle.std.specs.declared.option.Option.{Option}
+use Rattle.std.specs.declared.option.Option.the-variants.{Some, None}
 use Rattle.std.specs.declared.result.Result.{Result}
 use Rattle.std.specs.declared.result.Result.the-variants.{Ok, Err}
 use Rattle.text.specs.declared.faults.StringFault.{StringFault}
@@ -98,3 +101,12 @@ dependencyField =
     andThen namesField (λ asks.
     andThen closedField (λ _.
     give (record { end = end; edge = edge; optional = optional; defaults = defaults; name = name; asks = asks }))))))))
+
+-- one more in front, where there is one
+abbrev pub ahead : {A : Type 0} → Option A → List A → List A
+ahead None xs = []
+ahead (Some x) xs = x ∷ xs
+
+abbrev pub bytesIn : Option (RefT (List ℕ)) → Option (List ℕ)
+bytesIn None = None
+bytesIn (Some x) = Some (x .now)

@@ -1,0 +1,32 @@
+-- Rows laid into words.
+use mathlib.Core.Path.{_≡_, refl, sym, ap, subst, _∙_}
+use mathlib.Core.Bool.{Bool, true, false, cond}
+use mathlib.Core.List.{List, [], _∷_, _++_}
+use Prim.Native.Nat.{ℕ, zero, suc, _+_, _*_, _<_, _≤_}
+use native.Mathlib.Omega.{arith}
+use lib.ListN.{length, take, drop, set}
+use Rattle.graph.specs.declared.rows.Row.{Row}
+use Rattle.graph.specs.Sheets.{Sheet, put, lay, lays}
+
+pub lays-append : (s : Sheet) (xs ys : List Row) → lays s (xs ++ ys) ≡ lays (lays s xs) ys
+lays-append s [] ys = refl
+lays-append s (x ∷ xs) ys = lays-append (lay s x) xs ys
+
+-- five writes in a row
+pub put-five : (at : ℕ) (ws : List ℕ) (a b c d e : ℕ) → at + 5 ≤ length ws → set (set (set (set (set ws at a) (at + 1) b) (at + 2) c) (at + 3) d) (at + 4) e ≡ put ws at (a ∷ b ∷ c ∷ d ∷ e ∷ [])
+put-five zero [] a b c d e l = absurd (omega arith)
+put-five zero (v ∷ []) a b c d e l = absurd (omega arith)
+put-five zero (v ∷ w ∷ []) a b c d e l = absurd (omega arith)
+put-five zero (v ∷ w ∷ x ∷ []) a b c d e l = absurd (omega arith)
+put-five zero (v ∷ w ∷ x ∷ y ∷ []) a b c d e l = absurd (omega arith)
+put-five zero (v ∷ w ∷ x ∷ y ∷ z ∷ ws) a b c d e l = refl
+put-five (suc n) [] a b c d e l = absurd (omega arith)
+put-five (suc n) (w ∷ ws) a b c d e l =
+    let p : suc n + 1 ≡ suc (n + 1) = omega arith in
+    let q : suc n + 2 ≡ suc (n + 2) = omega arith in
+    let r : suc n + 3 ≡ suc (n + 3) = omega arith in
+    let s : suc n + 4 ≡ suc (n + 4) = omega arith in
+    let t : suc (n + 5) ≡ suc n + 5 = omega arith in
+    (λ i. set (set (set (set (w ∷ set ws n a) (p i) b) (q i) c) (r i) d) (s i) e)
+    ∙ ap (λ x. w ∷ x) (put-five n ws a b c d e (omega arith))
+    ∙ (λ i. w ∷ (take n ws ++ (a ∷ b ∷ c ∷ d ∷ e ∷ drop (t i) (w ∷ ws))))

@@ -1,0 +1,39 @@
+-- The first of a list of strings, as the code cuts it off.
+use mathlib.Core.Path.{_≡_, refl, sym, ap, subst, _∙_}
+use mathlib.Core.Logic.{⊎-elim}
+use mathlib.Core.List.{List, [], _∷_}
+use Prim.Native.Nat.{ℕ, zero, suc, _-_, min, _<_, _≤_}
+use native.Mathlib.Omega.{arith}
+use lib.ListN.{length, take, drop, getD}
+use Rattle.std.proofs.shelf.Lists.{take-rest, take-all, drop-all}
+use Rattle.std.proofs.shelf.Tests.{cases-lt}
+use Rattle.records.specs.Bodies.{listed}
+
+pub listed-none : (n : ℕ) (bs : List ℕ) → length bs ≤ 0 → [] ≡ listed n bs
+listed-none zero bs l = refl
+listed-none (suc n) [] l = refl
+listed-none (suc n) (b ∷ bs) l = absurd (omega arith)
+
+-- a cut past the end is one at the end
+take-min : (k : ℕ) (xs : List ℕ) → take (min k (length xs)) xs ≡ take k xs
+take-min k xs = ⊎-elim
+    (λ (l : k < length xs). let e : min k (length xs) ≡ k = omega arith in ap (λ n. take n xs) e)
+    (λ (l : length xs ≤ k). let e : min k (length xs) ≡ length xs = omega arith in ap (λ n. take n xs) e ∙ take-all (length xs) xs (omega arith) ∙ sym (take-all k xs l))
+    (cases-lt k (length xs))
+
+drop-min : (k : ℕ) (xs : List ℕ) → drop (min k (length xs)) xs ≡ drop k xs
+drop-min k xs = ⊎-elim
+    (λ (l : k < length xs). let e : min k (length xs) ≡ k = omega arith in ap (λ n. drop n xs) e)
+    (λ (l : length xs ≤ k). let e : min k (length xs) ≡ length xs = omega arith in ap (λ n. drop n xs) e ∙ drop-all (length xs) xs (omega arith) ∙ sym (drop-all k xs l))
+    (cases-lt k (length xs))
+
+pub listed-more : (count : ℕ) (bs : List ℕ) (n : ℕ) (a b : List ℕ) → 0 < count → 0 < length bs → n ≡ min (getD bs 0 0) (length (take (length bs - 1) (drop 1 bs))) → a ≡ take n (take (length bs - 1) (drop 1 bs)) → b ≡ drop n (take (length bs - 1) (drop 1 bs)) → a ∷ listed (count - 1) b ≡ listed count bs
+listed-more zero bs n a b z l e p q = absurd (omega arith)
+listed-more (suc m) [] n a b z l e p q = absurd (omega arith)
+listed-more (suc m) (x ∷ bs) n a b z l e p q =
+    let t = take-rest (x ∷ bs) 1 in
+    let w : n ≡ min x (length bs) = e ∙ ap (λ y. min x (length y)) t in
+    let c : suc m - 1 ≡ m = omega arith in
+    let front : a ≡ take x bs = p ∙ (λ i. take (w i) (t i)) ∙ take-min x bs in
+    let back : b ≡ drop x bs = q ∙ (λ i. drop (w i) (t i)) ∙ drop-min x bs in
+    λ i. front i ∷ listed (c i) (back i)
