@@ -9,3 +9,4 @@ pub mod FirstComplete
 pub mod FirstLaw
 pub mod PartsAgain
 pub mod SheetRows
+pub mod FeaturePlaces

@@ -201,7 +201,7 @@ has-some owner name (x ∷ ks) d (suc k) l e = or-right (isKey owner name x) (ha
 pub keys-length : (file : List ℕ) (entries : List Entry) (n : ℕ) → n ≤ length entries → length (keysOf file entries n) ≡ n
 keys-length file entries n l = length-map (take n entries) (keyOf file) ∙ length-take-le n entries l
 
-keys-at : (file : List ℕ) (entries : List Entry) (n k : ℕ) → n ≤ length entries → k < n → getD (keysOf file entries n) k (keyOf file blank) ≡ keyOf file (entryAt entries k)
+pub keys-at : (file : List ℕ) (entries : List Entry) (n k : ℕ) → n ≤ length entries → k < n → getD (keysOf file entries n) k (keyOf file blank) ≡ keyOf file (entryAt entries k)
 keys-at file entries n k l m =
     let w : k < length (take n entries) = omega (arith, length-take-le n entries l) in
     getD-map (keyOf file) (take n entries) k blank (keyOf file blank) w ∙ ap (keyOf file) (getD-take n entries k blank m)

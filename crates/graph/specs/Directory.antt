@@ -2,7 +2,7 @@
 use mathlib.Core.Path.{_≡_}
 use mathlib.Core.Bool.{Bool, false}
 use mathlib.Core.List.{List, _++_}
-use Prim.Native.Nat.{ℕ, _+_, _<_}
+use Prim.Native.Nat.{ℕ, _+_, _<_, _≤_}
 use lib.ListN.{length, drop, getD}
 use Rattle.text.specs.Forms.{plain}
 use Rattle.records.specs.declared.bodies.Edge.the-variants.{Normal}
@@ -12,6 +12,7 @@ use Rattle.graph.specs.declared.contents.Counts.{Counts}
 use Rattle.graph.specs.declared.tables.PackageEntry.{PackageEntry}
 use Rattle.graph.specs.declared.tables.PartEntry.{PartEntry}
 use Rattle.graph.specs.declared.tables.Directory.{Directory}
+use Rattle.graph.specs.Keys.{mostFeatures}
 use Rattle.graph.specs.Law.{LawfulPart, Says, dependencyCount, featureCount}
 use Rattle.graph.specs.Gathered.{keysFrom}
 use Rattle.graph.specs.Places.{dependenciesOf, procOf, dependenciesBefore, featuresBefore}
@@ -41,6 +42,7 @@ noPlaced = record { number = 0; start = 0; owner = 0; part = dependency noDepend
 pub record Tells (dir : Directory) (g : Graph) : Type 0 where
   pub says : Says (dir .index .file .now) g
   pub whole : Whole (dir .index)
+  pub few : dir .index .count ≤ mostFeatures
   pub keyed : keys (dir .index) ≡ keysFrom 0 g
   pub counted : dir .counts ≡ record { read = length (encode g); packages = length g; dependencies = dependencyCount g; features = featureCount g }
   pub packaged : (p : ℕ) → p < length g → getD (dir .packages) p noPackage ≡ record { «proc_mark» = procOf g p; dependency = dependenciesBefore g p; feature = featuresBefore g p }

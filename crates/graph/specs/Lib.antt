@@ -10,3 +10,4 @@ pub mod Opening
 pub mod Directory
 pub mod Sheets
 pub mod Parts
+pub mod Laying

@@ -6,5 +6,6 @@ mod lookup;
 mod parts;
 mod reading;
 pub mod rows;
+mod rules;
 mod sheets;
 mod tables;
