@@ -10,3 +10,4 @@ pub mod FirstLaw
 pub mod PartsAgain
 pub mod SheetRows
 pub mod FeaturePlaces
+pub mod Befores

@@ -1,7 +1,8 @@
 -- The rows of a graph by numbers, as the code lays them.
 use mathlib.Core.Bool.{Bool, true, false, cond, _&&_}
 use mathlib.Core.List.{List, [], _∷_, _++_}
-use Prim.Native.Nat.{ℕ, _+_}
+use Prim.Native.Nat.{ℕ, _+_, _<_}
+use lib.ListN.{length, getD}
 use lib.Chars.{codes}
 use Rattle.std.specs.shelf.Lists.{joined}
 use Rattle.std.specs.shelf.Text.{sameBytes}
@@ -11,10 +12,10 @@ use Rattle.text.specs.Forms.{Form, plain, switch, strong, weak}
 use Rattle.records.specs.Graphs.{Dependency, Feature, Graph}
 use Rattle.graph.specs.declared.rows.Row.{Row}
 use Rattle.graph.specs.declared.tables.Directory.{Directory}
-use Rattle.graph.specs.Directory.{Tells}
+use Rattle.graph.specs.Directory.{Tells, noDependency as noneAt}
 use Rattle.graph.specs.Parts.{graphOf}
 use Rattle.graph.specs.Places.{dep, feat, dependenciesOf, featuresOf, number}
-use Rattle.graph.specs.Rules.{laneOf, noDependency, placeOf, whenSome, when, unless}
+use Rattle.graph.specs.Rules.{laneOf, noDependency, placeOf, whenSome, when, unless, each}
 
 -- the graph that a directory is of
 abbrev pub its : Directory → Graph
@@ -40,16 +41,23 @@ abbrev pub weakRows : Graph → ℕ → Option (List ℕ) → ℕ → Dependency
 weakRows g from None item d = []
 weakRows g from (Some x) item d = whenSome (placeOf (featuresOf g (d .end)) x) (λ i. record { from = from; mate = Some item; to = number g (feat (d .end) i); lane = laneOf g d; cross = true })
 
-abbrev pub namedRows : Graph → ℕ → Bool → Option (List ℕ) → ℕ → Dependency → List Row
-namedRows g from switches x item d = when (switches && d .optional) (record { from = from; mate = None; to = item; lane = laneOf g d; cross = false }) ++ weakRows g from x item d
+abbrev pub switchRows : Graph → ℕ → Bool → ℕ → Dependency → List Row
+switchRows g from switches item d = when (switches && d .optional) (record { from = from; mate = None; to = item; lane = laneOf g d; cross = false })
 
-abbrev pub eachNamed : Graph → ℕ → List ℕ → Bool → Option (List ℕ) → ℕ → List Dependency → List Row
-eachNamed g from n switches x item [] = []
-eachNamed g from n switches x item (d ∷ ds) = cond (sameBytes (d .name) n) (namedRows g from switches x item d) [] ++ eachNamed g from n switches x (item + 1) ds
+abbrev pub oneNamed : Graph → ℕ → List ℕ → Bool → Option (List ℕ) → ℕ → Dependency → List Row
+oneNamed g from n switches x item d = cond (sameBytes (d .name) n) (switchRows g from switches item d ++ weakRows g from x item d) []
+
+-- for each dependency of package p
+abbrev pub eachNamed : Graph → ℕ → ℕ → List ℕ → Bool → Option (List ℕ) → List Row
+eachNamed g p from n switches x = each (λ k. oneNamed g from n switches x (number g (dep p k))) 0 (dependenciesOf g p)
 
 -- the rows of a value of a feature, whose number is `from`, of package p
 abbrev pub valueRows : Graph → ℕ → ℕ → Form (List ℕ) → List Row
 valueRows g p from (plain n) = whenSome (placeOf (featuresOf g p) n) (λ i. record { from = from; mate = None; to = number g (feat p i); lane = noDependency; cross = false })
-valueRows g p from (switch n) = eachNamed g from n true None (number g (dep p 0)) (dependenciesOf g p)
-valueRows g p from (strong n x) = eachNamed g from n true (Some x) (number g (dep p 0)) (dependenciesOf g p)
-valueRows g p from (weak n x) = eachNamed g from n false (Some x) (number g (dep p 0)) (dependenciesOf g p)
+valueRows g p from (switch n) = eachNamed g p from n true None
+valueRows g p from (strong n x) = eachNamed g p from n true (Some x)
+valueRows g p from (weak n x) = eachNamed g p from n false (Some x)
+
+-- every dependency's end is a package
+abbrev pub EndsKnown : Graph → Type 0
+EndsKnown g = (p k : ℕ) → k < length (dependenciesOf g p) → getD (dependenciesOf g p) k noneAt .end < length g

@@ -3,6 +3,8 @@ use mathlib.Core.Bool.{cond}
 use mathlib.Core.List.{List}
 use Prim.Native.Nat.{ℕ}
 use lib.Dec.{eqb}
+use Rattle.std.specs.declared.option.Option.{Option}
+use Rattle.std.specs.declared.option.Option.the-variants.{Some, None}
 use Rattle.std.specs.declared.result.Result.{Result}
 use Rattle.std.specs.declared.result.Result.the-variants.{Ok, Err}
 use Rattle.records.specs.declared.faults.RecordFault.{RecordFault}
@@ -11,7 +13,7 @@ use Rattle.records.specs.Fields.{View, Field, andThen, give}
 use Rattle.records.specs.Bodies.{nameText, dependencyField, valuesField}
 use Rattle.records.specs.Graphs.{Dependency, Feature, dependency, feature, Graph}
 use Rattle.graph.specs.declared.faults.FileFault.{FileFault}
-use Rattle.graph.specs.Reading.{Content, part, end, firstReading}
+use Rattle.graph.specs.Reading.{Content, header, heads, part, end, firstReading}
 
 -- a feature whose name was found new before
 abbrev pub featureAgain : Field Feature
@@ -39,3 +41,18 @@ graphOr (Err e) = mathlib.Core.List.[]
 
 unfoldable pub graphOf : List ℕ → Graph
 graphOf file = graphOr (firstReading file)
+
+-- the dependency, or the feature, that a record says
+abbrev pub asDependency : Content → Option Dependency
+asDependency header = None
+asDependency (heads h) = None
+asDependency (part (dependency d)) = Some d
+asDependency (part (feature f)) = None
+asDependency end = None
+
+abbrev pub asFeature : Content → Option Feature
+asFeature header = None
+asFeature (heads h) = None
+asFeature (part (dependency d)) = None
+asFeature (part (feature f)) = Some f
+asFeature end = None
