@@ -15,7 +15,7 @@ use Rattle.graph.specs.declared.tables.Directory.{Directory}
 use Rattle.graph.specs.Keys.{mostFeatures}
 use Rattle.graph.specs.Law.{LawfulPart, Says, dependencyCount, featureCount}
 use Rattle.graph.specs.Gathered.{keysFrom}
-use Rattle.graph.specs.Places.{dependenciesOf, procOf, dependenciesBefore, featuresBefore}
+use Rattle.graph.specs.Places.{dependenciesOf, featuresOf, procOf, dependenciesBefore, featuresBefore}
 use Rattle.graph.specs.Second.{Placed, placed}
 use Rattle.graph.specs.Views.{keys, Whole}
 
@@ -35,6 +35,9 @@ noPart = record { start = 0; owner = 0 }
 abbrev pub noDependency : Dependency
 noDependency = record { end = 0; edge = Normal; optional = false; defaults = false; name = mathlib.Core.List.[]; asks = mathlib.Core.List.[] }
 
+abbrev pub noFeature : Feature
+noFeature = record { name = mathlib.Core.List.[]; values = mathlib.Core.List.[] }
+
 abbrev pub noPlaced : Placed
 noPlaced = record { number = 0; start = 0; owner = 0; part = dependency noDependency }
 
@@ -47,4 +50,5 @@ pub record Tells (dir : Directory) (g : Graph) : Type 0 where
   pub counted : dir .counts ≡ record { read = length (encode g); packages = length g; dependencies = dependencyCount g; features = featureCount g }
   pub packaged : (p : ℕ) → p < length g → getD (dir .packages) p noPackage ≡ record { «proc_mark» = procOf g p; dependency = dependenciesBefore g p; feature = featuresBefore g p }
   pub depending : (p k : ℕ) → k < length (dependenciesOf g p) → Stands (dir .index .file .now) (getD (dir .dependencies) (dependenciesBefore g p + k) 0) (dependency (getD (dependenciesOf g p) k noDependency))
+  pub featuring : (p k : ℕ) → k < length (featuresOf g p) → Stands (dir .index .file .now) (getD (dir .features) (featuresBefore g p + k) 0) (feature (getD (featuresOf g p) k noFeature))
   pub parted : (j : ℕ) → j < length (placed g) → Stands (dir .index .file .now) (getD (dir .parts) j noPart .start) (getD (placed g) j noPlaced .part) × (getD (dir .parts) j noPart ≡ record { start = getD (placed g) j noPlaced .start; owner = getD (placed g) j noPlaced .owner })

@@ -1,7 +1,7 @@
 -- The rows of a graph by numbers, as the code lays them.
 use mathlib.Core.Bool.{Bool, true, false, cond, _&&_}
 use mathlib.Core.List.{List, [], _∷_, _++_}
-use Prim.Native.Nat.{ℕ, _+_, _<_}
+use Prim.Native.Nat.{ℕ, zero, suc, _<_}
 use lib.ListN.{length, getD}
 use lib.Chars.{codes}
 use Rattle.std.specs.shelf.Lists.{joined}
@@ -61,3 +61,13 @@ valueRows g p from (weak n x) = eachNamed g p from n false (Some x)
 -- every dependency's end is a package
 abbrev pub EndsKnown : Graph → Type 0
 EndsKnown g = (p k : ℕ) → k < length (dependenciesOf g p) → getD (dependenciesOf g p) k noneAt .end < length g
+
+-- the rows of a package, and of all
+abbrev pub packageRows : Graph → ℕ → List Row
+packageRows g p =
+    each (λ k. dependencyRows g p (number g (dep p k))) 0 (dependenciesOf g p)
+    ++ each (λ k f. joined (valueRows g p (number g (feat p k))) (f .values)) 0 (featuresOf g p)
+
+abbrev pub rowsBelow : Graph → ℕ → List Row
+rowsBelow g zero = []
+rowsBelow g (suc n) = rowsBelow g n ++ packageRows g n

@@ -1,6 +1,7 @@
 // Graph files: opening one, and its rule rows.
 mod contents;
 pub mod faults;
+mod features;
 mod index;
 mod lookup;
 mod named;
@@ -9,5 +10,6 @@ mod reading;
 pub mod rows;
 mod rules;
 mod sheets;
+mod sources;
 mod tables;
 mod values;

@@ -91,7 +91,7 @@ impl<'a> Directory<'a> {
     }
 
     // The rows of a dependency, whose number is `item`, of a package.
-    fn dependency_rows(&self, words: &mut [u32], count: u32, owner: u32, item: u32, d: Dependency) -> u32
+    pub(crate) fn dependency_rows(&self, words: &mut [u32], count: u32, owner: u32, item: u32, d: Dependency) -> u32
         requires told { ⌜ Told (now self) ⌝ }
         requires few { ⌜ count ≤ 262145 ⌝ }
         requires known { ⌜ d .end < length (its (now self)) ⌝ }

@@ -1,6 +1,7 @@
 // The tables of a directory.
 use crate::contents::Counts;
 use crate::index::Index;
+use crate::index::MAX_FEATURES;
 
 // The most packages and dependencies of a graph, and the most of dependencies and features together.
 pub(crate) const MAX_PACKAGES: usize = 4_096;
@@ -25,12 +26,13 @@ pub(crate) struct PartEntry {
 }
 
 // Where everything stands in a graph file that the first reading has accepted: the packages, the starts of the
-// dependency records, the starts of all dependency and feature records in file order, and the features by package
+// dependency records, those of the feature records, the starts of all dependency and feature records in file order, and the features by package
 // and name.
 pub(crate) struct Directory<'a> {
     pub index: Index<'a>,
     pub counts: Counts,
     pub packages: [PackageEntry; MAX_PACKAGES],
     pub dependencies: [u32; MAX_DEPENDENCIES],
+    pub features: [u32; MAX_FEATURES],
     pub parts: [PartEntry; MAX_PARTS],
 }
