@@ -54,9 +54,12 @@ abbrev pub hasDependency : List Dependency → List ℕ → Bool
 hasDependency [] n = false
 hasDependency (d ∷ ds) n = sameBytes (d .name) n || hasDependency ds n
 
+abbrev pub endHas : Graph → List ℕ → List ℕ → Dependency → Bool
+endHas g n x d = cond (sameBytes (d .name) n) (hasFeature (featuresOf g (d .end)) x) true
+
 abbrev pub endsHave : Graph → List Dependency → List ℕ → List ℕ → Bool
 endsHave g [] n x = true
-endsHave g (d ∷ ds) n x = cond (sameBytes (d .name) n) (hasFeature (featuresOf g (d .end)) x) true && endsHave g ds n x
+endsHave g (d ∷ ds) n x = endHas g n x d && endsHave g ds n x
 
 -- what a feature string of package p names is there
 abbrev pub known : Graph → ℕ → Form (List ℕ) → Bool

@@ -9,6 +9,7 @@ mod parts;
 mod reading;
 pub mod rows;
 mod rules;
+mod second;
 mod sheets;
 mod sources;
 mod tables;

@@ -1,8 +1,8 @@
 -- The bodies of records, field by field.
 use mathlib.Core.Bool.{Bool}
 use mathlib.Core.List.{List, [], _∷_, map}
-use Prim.Native.Nat.{ℕ, zero, suc}
-use lib.ListN.{take, drop}
+use Prim.Native.Nat.{ℕ, zero, suc, _≤_}
+use lib.ListN.{length, take, drop}
 use denote.Ref.{RefT}
 use Rattle.std.specs.declared.option.Option.{Option}
 use Rattle.std.specs.declared.option.Option.the-variants.{Some, None}
@@ -110,3 +110,8 @@ ahead (Some x) xs = x ∷ xs
 abbrev pub bytesIn : Option (RefT (List ℕ)) → Option (List ℕ)
 bytesIn None = None
 bytesIn (Some x) = Some (x .now)
+
+-- a string's length is one byte
+abbrev pub Short : Option (List ℕ) → Type 0
+Short None = Unit {0}
+Short (Some t) = length t ≤ 255

@@ -1,13 +1,14 @@
 // Going through a list of strings.
 ghost use mathlib.Core.Path.{_≡_};
-ghost use Rattle.records.specs.Bodies.{texts, ahead, bytesIn};
+ghost use Rattle.records.specs.Bodies.{texts, ahead, bytesIn, Short};
 use crate::strings::Strings;
 use text::parts::Part;
 
 impl<'a> Strings<'a> {
     // The next string.
     pub fn next(&mut self) -> Option<&'a [u8]>
-        ensures { λ r. ⌜ ahead (bytesIn r) (texts (now (self .exit))) ≡ texts (now (self .entry)) ⌝ }
+        ensures list { λ r. ⌜ ahead (bytesIn r) (texts (now (self .exit))) ≡ texts (now (self .entry)) ⌝ }
+        ensures short { λ r. ⌜ Short (bytesIn r) ⌝ }
     {
         if self.count == 0 {
             return None;

@@ -7,10 +7,14 @@ use Rattle.records.proofs.Listings.{listed-none, listed-more}
 use Rattle.records.proofs.strings.Strings.next.Needs as need
 
 pub returns-in-rest : need.returns-in-rest
-returns-in-rest c = listed-none (c .args .self .now .count) (c .args .self .now .part .bytes .now) (search needs)
+returns-in-rest c = record { list = listed-none (c .args .self .now .count) (c .args .self .now .part .bytes .now) (search needs); short = tt }
 
 pub returns : need.returns
 returns c =
     let s = c .args .self .now in
-    listed-more (s .count) (s .part .bytes .now) (c .min-n .result) (c .split-at .result .0 .now) (c .split-at .result .1 .now) (search needs) (search needs)
-    (search needs) (c .split-at .ensures .front) (c .split-at .ensures .back)
+    record {
+      list =
+        listed-more (s .count) (s .part .bytes .now) (c .min-n .result) (c .split-at .result .0 .now) (c .split-at .result .1 .now) (search needs) (search needs)
+        (search needs) (c .split-at .ensures .front) (c .split-at .ensures .back);
+      short = search needs;
+    }
