@@ -64,8 +64,8 @@ packages-complete rest (g ∷ gs) st num own m n h =
     ∙ ap (onRest (λ l. record { parts = []; packages = record { proc = g .proc; name = g .name; parts = l .parts } ∷ l .packages })) (d n (place-on c bs more rest (st .start) n same h))
 
 -- a file that says a graph is read
-pub first-complete : (file : List ℕ) (g : Graph) → Says file g → firstReading file ≡ Ok (g, length (encode g))
-first-complete file g s =
+pub scan-complete : (file : List ℕ) (g : Graph) → Says file g → scan begin file ≡ Ok (record { parts = []; packages = g }, length (encode g))
+scan-complete file g s =
     let more : List ℕ = tailBytes [] g (s .rest) in
     let same : file ≡ contentBytes header ++ more = s .bytes ∙ graph-bytes g (s .rest) in
     let m : May 0 0 [] [] g = record {
@@ -80,5 +80,7 @@ first-complete file g s =
     } in
     let h : length (encode g) + length (s .rest) ≡ 8 + length more = omega (arith, ap length (graph-bytes g (s .rest)), length-append (encode g) (s .rest)) in
     let d : Done (after begin (found header more)) [] g (s .rest) = packages-complete (s .rest) g (after begin (found header more)) (omega arith) tt m in
-    cond-false _ _ _ (le-ltb mostBytes (length file) (s .size))
-    ∙ ap graphIn (ap (scan begin) same ∙ scan-reads begin header more refl ∙ d (length (encode g)) h)
+    ap (scan begin) same ∙ scan-reads begin header more refl ∙ d (length (encode g)) h
+
+pub first-complete : (file : List ℕ) (g : Graph) → Says file g → firstReading file ≡ Ok (g, length (encode g))
+first-complete file g s = cond-false _ _ _ (le-ltb mostBytes (length file) (s .size)) ∙ ap graphIn (scan-complete file g s)

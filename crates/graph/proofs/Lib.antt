@@ -11,3 +11,8 @@ pub mod PartsAgain
 pub mod SheetRows
 pub mod FeaturePlaces
 pub mod Befores
+pub mod Filling
+pub mod Telling
+pub mod Keyed
+pub mod RowsLaid
+pub mod SheetsLaid

@@ -27,10 +27,11 @@ feature-reads f k l =
     let e = name-coded .complete (f .name) (listBytes value (f .values)) k (l .0) in
     let v = values-closed .complete (f .values) (k + length (string (f .name))) tt ((l .1, l .2), tt) in
     let b : valuesField (at (listBytes value (f .values)) (k + length (string (f .name)))) ≡ Ok (f .values, v .0) =
-          ap (λ x. valuesField (at x (k + length (string (f .name))))) (sym (append-nil (listBytes value (f .values)))) ∙ v .1 in
-    (v .0,
-     ap (λ r. onOk r (λ name. andThen valuesField (λ values. give (record { name = name; values = values })))) e
-     ∙ ap (λ r. onOk r (λ values. give (record { name = f .name; values = values }))) b)
+    ap (λ x. valuesField (at x (k + length (string (f .name))))) (sym (append-nil (listBytes value (f .values)))) ∙ v .1 in (
+      v .0,
+      ap (λ r. onOk r (λ name. andThen valuesField (λ values. give (record { name = name; values = values })))) e
+          ∙ ap (λ r. onOk r (λ values. give (record { name = f .name; values = values }))) b,
+    )
 
 pub stands-reads : (file : List ℕ) (start : ℕ) (p : Part) → Stands file start p → partIn (drop start file) ≡ part p
 stands-reads file start (dependency d) s =
@@ -50,6 +51,6 @@ stands-within file start p s =
     ⊎-elim
     (λ (l : start < length file). omega arith)
     (λ (l : length file ≤ start).
-      let e : length (partBytes p ++ s .rest) ≡ 0 = ap length (sym (s .bytes) ∙ drop-all start file l) in
-      absurd (omega (arith, record-some p, e, length-append (partBytes p) (s .rest))))
+    let e : length (partBytes p ++ s .rest) ≡ 0 = ap length (sym (s .bytes) ∙ drop-all start file l) in
+    absurd (omega (arith, record-some p, e, length-append (partBytes p) (s .rest))))
     (cases-lt start (length file))

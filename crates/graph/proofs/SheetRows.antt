@@ -36,7 +36,6 @@ put-five (suc n) (w ∷ ws) a b c d e l =
 
 -- a loop that lays what each element gives, with its place
 module _ {A : Type 0} (f : ℕ → A → List Row) (xs : List A) (d : A) (k : ℕ) (s : Sheet) (all : Sheet) (inv : lays s (each f k (drop k xs)) ≡ all) where
-
   pub each-more : (t : Sheet) → k < length xs → t ≡ lays s (f k (getD xs k d)) → lays t (each f (k + 1) (drop (k + 1) xs)) ≡ all
   each-more t l e =
       ap (λ u. lays u (each f (k + 1) (drop (k + 1) xs))) e

@@ -1,4 +1,5 @@
 -- What the first reading gathers: counts, and the features by package and name.
+use mathlib.Core.Path.{_≡_}
 use mathlib.Core.Bool.{cond}
 use mathlib.Core.List.{List, [], _∷_, _++_}
 use Prim.Native.Nat.{ℕ, _+_, _-_}
@@ -47,3 +48,8 @@ gatheredIn file = cond (ltb mostBytes (length file)) (Err Size) (gathered begin 
 abbrev pub gatheredBy : Result Counts FileFault → List Key → Result Gathered FileFault
 gatheredBy (Ok c) ks = Ok (record { read = c .read; packages = c .packages; dependencies = c .dependencies; keys = ks })
 gatheredBy (Err e) ks = Err e
+
+-- the count of features that the code answers is that of its index
+abbrev pub Featured : Result Counts FileFault → ℕ → Type 0
+Featured (Ok c) n = c .features ≡ n
+Featured (Err e) n = Unit {0}

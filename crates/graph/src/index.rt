@@ -17,6 +17,7 @@ pub struct Entry {
 }
 
 // The features so far, by number; and for each bucket the number of its newest feature, plus 1.
+#[derive(Drop)]
 pub struct Index<'a> {
     pub file: &'a [u8],
     pub count: u32,

@@ -1,5 +1,6 @@
 // Graph files: opening one, and its rule rows.
 mod contents;
+mod directory;
 pub mod faults;
 mod features;
 mod index;

@@ -86,7 +86,15 @@ impl<'a> Directory<'a> {
     }
 
     // From a feature to an optional dependency, where a value may switch it on.
-    fn switch_row(&self, words: &mut [u32], count: u32, from: u32, item: u32, switches: bool, d: Dependency) -> u32
+    fn switch_row(
+        &self,
+        words: &mut [u32],
+        count: u32,
+        from: u32,
+        item: u32,
+        switches: bool,
+        d: Dependency,
+    ) -> u32
         requires told { ⌜ Told (now self) ⌝ }
         requires few { ⌜ count ≤ 262145 ⌝ }
         requires known { ⌜ d .end < length (its (now self)) ⌝ }
@@ -111,7 +119,15 @@ impl<'a> Directory<'a> {
     }
 
     // From a feature and a dependency to the feature of a name of its end, where a value names one.
-    fn weak_row(&self, words: &mut [u32], count: u32, from: u32, item: u32, feature: Option<&[u8]>, d: Dependency) -> u32
+    fn weak_row(
+        &self,
+        words: &mut [u32],
+        count: u32,
+        from: u32,
+        item: u32,
+        feature: Option<&[u8]>,
+        d: Dependency,
+    ) -> u32
         requires told { ⌜ Told (now self) ⌝ }
         requires few { ⌜ count ≤ 262145 ⌝ }
         requires known { ⌜ d .end < length (its (now self)) ⌝ }

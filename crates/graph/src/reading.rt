@@ -7,7 +7,7 @@ ghost use Rattle.records.specs.Frames.{frame as frameView};
 ghost use Rattle.records.specs.Fields.{view, outcomeBy};
 ghost use Rattle.records.specs.Bodies.{featureView};
 ghost use Rattle.graph.specs.Reading.{kindHere, featureField, contentOf, recordAt, isEnd, after};
-ghost use Rattle.graph.specs.Gathered.{gatheredBy, gatheredIn};
+ghost use Rattle.graph.specs.Gathered.{gatheredBy, gatheredIn, Featured};
 ghost use Rattle.graph.specs.Views.{contentView, foundView, standView, keys, Whole, Fits, located as locatedIn};
 use crate::contents::Content;
 use crate::contents::Counts;
@@ -184,6 +184,7 @@ pub(crate) fn first_reading<'a>(index: &mut Index<'a>) -> Result<Counts, FileFau
     ensures whole { λ _. ⌜ Whole (now (index .exit)) ⌝ }
     ensures file { λ _. ⌜ now (now (index .exit) .file) ≡ now (now (index .entry) .file) ⌝ }
     ensures few { λ _. ⌜ now (index .exit) .count ≤ 16384 ⌝ }
+    ensures featured { λ r. ⌜ Featured r (now (index .exit) .count) ⌝ }
 {
     let file = index.file;
     if file.len() > MAX_BYTES {

@@ -53,7 +53,15 @@ impl<'a> Directory<'a> {
     }
 
     // From an item to the feature of a name of a package.
-    fn ask_rows(&self, words: &mut [u32], count: u32, from: u32, lane: u32, end: u32, name: &[u8]) -> u32
+    fn ask_rows(
+        &self,
+        words: &mut [u32],
+        count: u32,
+        from: u32,
+        lane: u32,
+        end: u32,
+        name: &[u8],
+    ) -> u32
         requires told { ⌜ Told (now self) ⌝ }
         requires few { ⌜ count ≤ 262145 ⌝ }
         ensures sheet { λ r. ⌜ sheet (now (words .exit)) r ≡ lays (sheet (now (words .entry)) count) (askRows (its (now (self .entry))) from lane end (now (name .entry))) ⌝ }
@@ -76,7 +84,15 @@ impl<'a> Directory<'a> {
     }
 
     // From an item to each of some features of a package.
-    fn asks_rows(&self, words: &mut [u32], count: u32, from: u32, lane: u32, end: u32, asks: Strings) -> u32
+    fn asks_rows(
+        &self,
+        words: &mut [u32],
+        count: u32,
+        from: u32,
+        lane: u32,
+        end: u32,
+        asks: Strings,
+    ) -> u32
         requires told { ⌜ Told (now self) ⌝ }
         requires few { ⌜ count ≤ 262145 ⌝ }
         ensures sheet { λ r. ⌜ sheet (now (words .exit)) r ≡ lays (sheet (now (words .entry)) count) (joined (askRows (its (now (self .entry))) from lane end) (texts (asks .entry))) ⌝ }
@@ -91,7 +107,14 @@ impl<'a> Directory<'a> {
     }
 
     // The rows of a dependency, whose number is `item`, of a package.
-    pub(crate) fn dependency_rows(&self, words: &mut [u32], count: u32, owner: u32, item: u32, d: Dependency) -> u32
+    pub(crate) fn dependency_rows(
+        &self,
+        words: &mut [u32],
+        count: u32,
+        owner: u32,
+        item: u32,
+        d: Dependency,
+    ) -> u32
         requires told { ⌜ Told (now self) ⌝ }
         requires few { ⌜ count ≤ 262145 ⌝ }
         requires known { ⌜ d .end < length (its (now self)) ⌝ }

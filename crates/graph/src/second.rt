@@ -86,8 +86,18 @@ impl<'a> Directory<'a> {
         match read_feature_string(text) {
             Ok(FeatureString::Plain { feature }) => self.has_feature(p, feature.bytes),
             Ok(FeatureString::Switch { dependency }) => self.has_dependency(p, dependency.bytes),
-            Ok(FeatureString::Strong { dependency, feature } | FeatureString::Weak { dependency, feature }) => {
-                self.has_dependency(p, dependency.bytes) && self.ends_have(p, dependency.bytes, feature.bytes)
+            Ok(
+                FeatureString::Strong {
+                    dependency,
+                    feature,
+                }
+                | FeatureString::Weak {
+                    dependency,
+                    feature,
+                },
+            ) => {
+                self.has_dependency(p, dependency.bytes)
+                    && self.ends_have(p, dependency.bytes, feature.bytes)
             }
             Err(_) => self.has_feature(p, text),
         }

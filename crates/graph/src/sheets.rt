@@ -15,6 +15,7 @@ const NONE: u32 = u32::MAX;
 
 // The words before the rows, and the words of a row.
 const HEAD: usize = 4;
+
 const WIDTH: usize = 5;
 
 fn mate_word(mate: Option<u32>) -> u32

@@ -25,6 +25,16 @@ pub(crate) struct PartEntry {
     pub owner: u32,
 }
 
+// Where the filling of a directory stands: the start of the next record, and how many packages, dependencies and
+// features are before it.
+#[derive(Clone, Copy)]
+pub(crate) struct Seat {
+    pub start: usize,
+    pub packages: u32,
+    pub dependencies: u32,
+    pub features: u32,
+}
+
 // Where everything stands in a graph file that the first reading has accepted: the packages, the starts of the
 // dependency records, those of the feature records, the starts of all dependency and feature records in file order, and the features by package
 // and name.

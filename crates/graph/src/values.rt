@@ -49,10 +49,26 @@ impl<'a> Directory<'a> {
         ensures few { λ r. ⌜ r ≤ 262145 ⌝ }
     {
         let (dependency, switches, feature) = match read_feature_string(text) {
-            Ok(FeatureString::Plain { feature }) => return self.plain_row(words, count, p, from, feature.bytes),
+            Ok(FeatureString::Plain { feature }) => return self.plain_row(
+                words,
+                count,
+                p,
+                from,
+                feature.bytes,
+            ),
             Ok(FeatureString::Switch { dependency }) => (dependency, true, None),
-            Ok(FeatureString::Strong { dependency, feature }) => (dependency, true, Some(feature.bytes)),
-            Ok(FeatureString::Weak { dependency, feature }) => (dependency, false, Some(feature.bytes)),
+            Ok(
+                FeatureString::Strong {
+                    dependency,
+                    feature,
+                },
+            ) => (dependency, true, Some(feature.bytes)),
+            Ok(
+                FeatureString::Weak {
+                    dependency,
+                    feature,
+                },
+            ) => (dependency, false, Some(feature.bytes)),
             Err(_) => return self.plain_row(words, count, p, from, text),
         };
         let name = dependency.bytes;
@@ -66,7 +82,14 @@ impl<'a> Directory<'a> {
     }
 
     // The rows of the values of a feature.
-    pub(crate) fn values_rows(&self, words: &mut [u32], count: u32, p: u32, from: u32, values: Strings) -> u32
+    pub(crate) fn values_rows(
+        &self,
+        words: &mut [u32],
+        count: u32,
+        p: u32,
+        from: u32,
+        values: Strings,
+    ) -> u32
         requires told { ⌜ Told (now self) ⌝ }
         requires ends { ⌜ EndsKnown (its (now self)) ⌝ }
         requires few { ⌜ count ≤ 262145 ⌝ }

@@ -11,7 +11,7 @@ use Rattle.std.specs.declared.result.Result.{Result}
 use Rattle.std.specs.declared.result.Result.the-variants.{Ok, Err}
 use Rattle.graph.specs.declared.faults.FileFault.{FileFault}
 use Rattle.graph.specs.Reading.{Stand, begin, recordAt, isEnd, scan, mostBytes}
-use Rattle.graph.specs.Gathered.{Gathered, gathered, gatheredIn, gatheredBy}
+use Rattle.graph.specs.Gathered.{Gathered, gathered, gatheredIn, gatheredBy, Featured}
 use Rattle.graph.specs.Views.{standView, foundView, contentView, keys, Fits}
 use Rattle.graph.proofs.Links.{keys-length}
 use Rattle.graph.proofs.Gathers.{loop-stops, loop-goes, loop-ends, next-within, found-fits, packages-step, dependencies-step}
@@ -33,6 +33,7 @@ returns-in-Break-found c =
       whole = c .loop-found .inv .5;
       file = c .loop-found .inv .4;
       few = c .loop-found .inv .6;
+      featured = subst (λ r. Featured r (i .count)) (sym (p .1)) tt;
     }
 
 pub returns-then-is-end : need.returns-then-is-end
@@ -47,6 +48,7 @@ returns-then-is-end c =
       whole = c .loop-found .inv .5;
       file = c .loop-found .inv .4;
       few = c .loop-found .inv .6;
+      featured = refl;
     }
 
 pub noted-stand-requires : need.noted-stand-requires

@@ -12,7 +12,7 @@ abbrev pub Inv-loop-name : given.InvT-loop-name
 Inv-loop-name l =
     (l .laid ≤ 262145)
     × (lays (sheet (l .words) (l .laid)) (joined (askRows (its (l .self)) (l .from) (l .lane) (l .end)) (texts (l .asks)))
-      ≡ lays (sheet (l .entry .words) (l .count)) (joined (askRows (its (l .self)) (l .from) (l .lane) (l .end)) (texts (l .entry .asks))))
+    ≡ lays (sheet (l .entry .words) (l .count)) (joined (askRows (its (l .self)) (l .from) (l .lane) (l .end)) (texts (l .entry .asks))))
 
 abbrev pub μ-loop-name : given.MeasureT-loop-name
 μ-loop-name l = length (texts (l .asks))

@@ -15,12 +15,13 @@ pub loop-p-again : need.loop-p-again
 loop-p-again c =
     let g = its (c .args .self .now) in
     let p = c .loop-p .p in
-    let e : suc p ≡ p + 1 = omega arith in
-    (c .rows-of-package-laid .ensures .few,
-     c .rows-of-package-laid .ensures .sheet
-     ∙ ap (λ s. lays s (packageRows g p)) (c .loop-p .inv .1)
-     ∙ sym (lays-append (sheet (c .args .words .now) 0) (rowsBelow g p) (packageRows g p))
-     ∙ ap (λ n. lays (sheet (c .args .words .now) 0) (rowsBelow g n)) e)
+    let e : suc p ≡ p + 1 = omega arith in (
+      c .rows-of-package-laid .ensures .few,
+      c .rows-of-package-laid .ensures .sheet
+          ∙ ap (λ s. lays s (packageRows g p)) (c .loop-p .inv .1)
+          ∙ sym (lays-append (sheet (c .args .words .now) 0) (rowsBelow g p) (packageRows g p))
+          ∙ ap (λ n. lays (sheet (c .args .words .now) 0) (rowsBelow g n)) e,
+    )
 
 pub returns : need.returns
 returns c =

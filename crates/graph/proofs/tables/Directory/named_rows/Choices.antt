@@ -13,4 +13,4 @@ abbrev pub Inv-loop-k : given.InvT-loop-k
 Inv-loop-k l =
     (l .laid ≤ 262145)
     × (lays (sheet (l .words) (l .laid)) (each (λ k. oneNamed (its (l .self)) (l .value .from) (l .value .name .now) (l .value .switches) (bytesIn (l .value .feature)) (number (its (l .self)) (dep (l .p) k))) (l .k) (drop (l .k) (dependenciesOf (its (l .self)) (l .p))))
-      ≡ lays (sheet (l .entry .words) (l .count)) (eachNamed (its (l .self)) (l .p) (l .value .from) (l .value .name .now) (l .value .switches) (bytesIn (l .value .feature))))
+    ≡ lays (sheet (l .entry .words) (l .count)) (eachNamed (its (l .self)) (l .p) (l .value .from) (l .value .name .now) (l .value .switches) (bytesIn (l .value .feature))))

@@ -14,9 +14,10 @@ use Rattle.graph.proofs.tables.Directory.rows_of_dependencies.Needs as need
 pub loop-k-again : need.loop-k-again
 loop-k-again c =
     let s = c .args .self .now in
-    let l : c .loop-k .k < length (dependenciesOf (its s) (c .args .p)) = omega (arith, c .loop-k-test .taken, c .dependency-count-k-end .ensures) in
-    (c .rows-of-dependency-laid .ensures .few,
-     each-more (λ k. dependencyRows (its s) (c .args .p) (number (its s) (dep (c .args .p) k))) (dependenciesOf (its s) (c .args .p)) noDependency (c .loop-k .k) (sheet (c .loop-k .words) (c .loop-k .laid)) _ (c .loop-k .inv .1) (sheet (c .rows-of-dependency-laid .last .words) (c .rows-of-dependency-laid .result)) l (c .rows-of-dependency-laid .ensures .sheet))
+    let l : c .loop-k .k < length (dependenciesOf (its s) (c .args .p)) = omega (arith, c .loop-k-test .taken, c .dependency-count-k-end .ensures) in (
+      c .rows-of-dependency-laid .ensures .few,
+      each-more (λ k. dependencyRows (its s) (c .args .p) (number (its s) (dep (c .args .p) k))) (dependenciesOf (its s) (c .args .p)) noDependency (c .loop-k .k) (sheet (c .loop-k .words) (c .loop-k .laid)) _ (c .loop-k .inv .1) (sheet (c .rows-of-dependency-laid .last .words) (c .rows-of-dependency-laid .result)) l (c .rows-of-dependency-laid .ensures .sheet),
+    )
 
 pub returns : need.returns
 returns c =

@@ -14,4 +14,4 @@ abbrev pub Inv-loop-k : given.InvT-loop-k
 Inv-loop-k l =
     (l .laid ≤ 262145)
     × (lays (sheet (l .words) (l .laid)) (each (λ k. dependencyRows (its (l .self)) (l .p) (number (its (l .self)) (dep (l .p) k))) (l .k) (drop (l .k) (dependenciesOf (its (l .self)) (l .p))))
-      ≡ lays (sheet (l .entry .words) (l .count)) (each (λ k. dependencyRows (its (l .self)) (l .p) (number (its (l .self)) (dep (l .p) k))) 0 (dependenciesOf (its (l .self)) (l .p))))
+    ≡ lays (sheet (l .entry .words) (l .count)) (each (λ k. dependencyRows (its (l .self)) (l .p) (number (its (l .self)) (dep (l .p) k))) 0 (dependenciesOf (its (l .self)) (l .p))))

@@ -14,4 +14,4 @@ abbrev pub Inv-loop-k : given.InvT-loop-k
 Inv-loop-k l =
     (l .laid ≤ 262145)
     × (lays (sheet (l .words) (l .laid)) (each (λ (k : ℕ) (f : Feature). joined (valueRows (its (l .self)) (l .p) (number (its (l .self)) (feat (l .p) k))) (f .values)) (l .k) (drop (l .k) (featuresOf (its (l .self)) (l .p))))
-      ≡ lays (sheet (l .entry .words) (l .count)) (each (λ (k : ℕ) (f : Feature). joined (valueRows (its (l .self)) (l .p) (number (its (l .self)) (feat (l .p) k))) (f .values)) 0 (featuresOf (its (l .self)) (l .p))))
+    ≡ lays (sheet (l .entry .words) (l .count)) (each (λ (k : ℕ) (f : Feature). joined (valueRows (its (l .self)) (l .p) (number (its (l .self)) (feat (l .p) k))) (f .values)) 0 (featuresOf (its (l .self)) (l .p))))

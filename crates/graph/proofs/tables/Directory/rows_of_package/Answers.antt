@@ -15,8 +15,8 @@ returns c =
     let p = c .args .p in
     record {
       sheet =
-        c .rows-of-features .ensures .sheet
-        ∙ ap (λ s. lays s (each (λ (k : ℕ) (f : Feature). joined (valueRows g p (number g (feat p k))) (f .values)) 0 (featuresOf g p))) (c .rows-of-dependencies-laid .ensures .sheet)
-        ∙ sym (lays-append (sheet (c .args .words .now) (c .args .count)) (each (λ k. dependencyRows g p (number g (dep p k))) 0 (dependenciesOf g p)) (each (λ (k : ℕ) (f : Feature). joined (valueRows g p (number g (feat p k))) (f .values)) 0 (featuresOf g p)));
+          c .rows-of-features .ensures .sheet
+          ∙ ap (λ s. lays s (each (λ (k : ℕ) (f : Feature). joined (valueRows g p (number g (feat p k))) (f .values)) 0 (featuresOf g p))) (c .rows-of-dependencies-laid .ensures .sheet)
+          ∙ sym (lays-append (sheet (c .args .words .now) (c .args .count)) (each (λ k. dependencyRows g p (number g (dep p k))) 0 (dependenciesOf g p)) (each (λ (k : ℕ) (f : Feature). joined (valueRows g p (number g (feat p k))) (f .values)) 0 (featuresOf g p)));
       few = c .rows-of-features .ensures .few;
     }

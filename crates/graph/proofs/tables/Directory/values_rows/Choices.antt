@@ -12,7 +12,7 @@ abbrev pub Inv-loop-text : given.InvT-loop-text
 Inv-loop-text l =
     (l .laid ≤ 262145)
     × (lays (sheet (l .words) (l .laid)) (joined (valueRows (its (l .self)) (l .p) (l .from)) (forms (l .values)))
-      ≡ lays (sheet (l .entry .words) (l .count)) (joined (valueRows (its (l .self)) (l .p) (l .from)) (forms (l .entry .values))))
+    ≡ lays (sheet (l .entry .words) (l .count)) (joined (valueRows (its (l .self)) (l .p) (l .from)) (forms (l .entry .values))))
 
 abbrev pub μ-loop-text : given.MeasureT-loop-text
 μ-loop-text l = length (forms (l .values))

@@ -14,7 +14,7 @@ returns c =
     let s = c .args .self .now in
     record {
       list =
-        listed-more (s .count) (s .part .bytes .now) (c .min-n .result) (c .split-at .result .0 .now) (c .split-at .result .1 .now) (search needs) (search needs)
-        (search needs) (c .split-at .ensures .front) (c .split-at .ensures .back);
+          listed-more (s .count) (s .part .bytes .now) (c .min-n .result) (c .split-at .result .0 .now) (c .split-at .result .1 .now) (search needs) (search needs)
+          (search needs) (c .split-at .ensures .front) (c .split-at .ensures .back);
       short = search needs;
     }
