@@ -8,6 +8,7 @@ pub mod Rules
 pub mod Second
 pub mod Opening
 pub mod Directory
+pub mod OpeningLaw
 pub mod Filling
 pub mod Sheets
 pub mod Parts
