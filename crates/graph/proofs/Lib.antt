@@ -16,3 +16,5 @@ pub mod Telling
 pub mod Keyed
 pub mod RowsLaid
 pub mod SheetsLaid
+pub mod Resolving
+pub mod Namings

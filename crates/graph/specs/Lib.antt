@@ -13,3 +13,4 @@ pub mod Filling
 pub mod Sheets
 pub mod Parts
 pub mod Laying
+pub mod Checks

@@ -8,6 +8,7 @@ mod lookup;
 mod named;
 mod parts;
 mod reading;
+mod references;
 pub mod rows;
 mod rules;
 mod second;

@@ -15,7 +15,7 @@ use text::strings::read_feature_string;
 
 impl<'a> Directory<'a> {
     // Whether a package has a feature of this name.
-    fn has_feature(&self, p: u32, name: &[u8]) -> bool
+    pub(crate) fn has_feature(&self, p: u32, name: &[u8]) -> bool
         requires told { ⌜ Told (now self) ⌝ }
         ensures { λ r. ⌜ r ≡ hasFeature (featuresOf (its (now (self .entry))) p) (now (name .entry)) ⌝ }
     {
@@ -78,7 +78,7 @@ impl<'a> Directory<'a> {
     }
 
     // Whether what a feature string of a package names is there.
-    fn known(&self, p: u32, text: &[u8]) -> bool
+    pub(crate) fn known(&self, p: u32, text: &[u8]) -> bool
         requires told { ⌜ Told (now self) ⌝ }
         requires within { ⌜ p < length (its (now self)) ⌝ }
         ensures { λ r. ⌜ r ≡ knownIn (its (now (self .entry))) p (formIn (now (text .entry))) ⌝ }

@@ -7,7 +7,13 @@ use native.Mathlib.Omega.{arith}
 use lib.ListN.{length, take, drop, getD}
 use Rattle.std.proofs.shelf.Lists.{take-rest, take-all, drop-all}
 use Rattle.std.proofs.shelf.Tests.{cases-lt}
-use Rattle.records.specs.Bodies.{listed}
+use Rattle.std.specs.declared.result.Result.{Result}
+use Rattle.std.specs.declared.result.Result.the-variants.{Ok, Err}
+use Rattle.text.specs.declared.faults.StringFault.{StringFault}
+use Rattle.text.specs.Forms.{Form, Piece, spell, unplaced}
+use Rattle.text.specs.Readers.{readForm}
+use Rattle.text.proofs.FormLaws.{form-law, unplaced-placed}
+use Rattle.records.specs.Bodies.{listed, said, formIn}
 
 pub listed-none : (n : ℕ) (bs : List ℕ) → length bs ≤ 0 → [] ≡ listed n bs
 listed-none zero bs l = refl
@@ -37,3 +43,18 @@ listed-more (suc m) (x ∷ bs) n a b z l e p q =
     let front : a ≡ take x bs = p ∙ (λ i. take (w i) (t i)) ∙ take-min x bs in
     let back : b ≡ drop x bs = q ∙ (λ i. drop (w i) (t i)) ∙ drop-min x bs in
     λ i. front i ∷ listed (c i) (back i)
+
+pub listed-length : (n : ℕ) (bs : List ℕ) → length (listed n bs) ≤ n
+listed-length zero bs = omega arith
+listed-length (suc n) [] = omega arith
+listed-length (suc n) (k ∷ bs) = omega (arith, listed-length n (drop k bs))
+
+-- what a string says is spelled as it
+pub said-spelled : (t : List ℕ) → spell (formIn t) ≡ t
+said-spelled t = go (readForm t) refl
+  where
+    go : (r : Result (Form Piece) StringFault) → readForm t ≡ r → spell (said t r) ≡ t
+    go (Ok f) e =
+        let s = form-law t (readForm t) refl .sound f e in
+        ap spell (ap unplaced (s .3) ∙ unplaced-placed (s .0)) ∙ sym (s .2)
+    go (Err x) e = refl
