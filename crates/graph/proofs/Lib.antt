@@ -18,3 +18,6 @@ pub mod RowsLaid
 pub mod SheetsLaid
 pub mod Resolving
 pub mod Namings
+pub mod OpenLaw
+pub mod RulesStand
+pub mod Opens

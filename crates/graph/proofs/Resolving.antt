@@ -1,7 +1,7 @@
 -- The second reading finds no fault exactly if every reference is resolved.
 use mathlib.Core.Path.{_≡_, refl, sym, ap, subst, _∙_}
-use mathlib.Core.Logic.{_⊎_, inl, inr, ⊎-elim}
-use mathlib.Core.Bool.{Bool, true, false, cond, _&&_, _||_}
+use mathlib.Core.Logic.{⊎-elim}
+use mathlib.Core.Bool.{Bool, true, false, cond}
 use mathlib.Core.List.{List, [], _∷_, _++_}
 use Prim.Native.Nat.{ℕ, zero, suc, _+_, _-_, _<_, _≤_}
 use native.Mathlib.Omega.{arith}
@@ -20,7 +20,7 @@ use Rattle.std.specs.declared.result.Result.{Result}
 use Rattle.std.specs.declared.result.Result.the-variants.{Ok, Err}
 use Rattle.text.specs.Forms.{Form, plain, switch, strong, weak, spell}
 use Rattle.records.proofs.Numbers.{not-both}
-use Rattle.records.specs.Graphs.{Dependency, Feature, Part, dependency, feature, Package, Graph}
+use Rattle.records.specs.Graphs.{Dependency, Feature, Part, dependency, feature, Graph}
 use Rattle.records.specs.Encoding.{partBytes, headerBytes}
 use Rattle.graph.specs.declared.faults.InRecord.{InRecord}
 use Rattle.graph.specs.Law.{dependenciesIn, featuresIn, dependencyCount, featureCount}
@@ -57,7 +57,7 @@ from-length (a ∷ g) number start owner =
 pub placed-length : (g : Graph) → length (placed g) ≡ dependencyCount g + featureCount g
 placed-length g = from-length g 1 (length headerBytes) 0
 
--- record j of a package: its number, its owner and what it says
+-- record j of a package: its number and its owner
 parts-at : (ps : List Part) (number start owner j : ℕ) → j < length ps → (getD (placedParts number start owner ps) j noPlaced .number ≡ number + j) × (getD (placedParts number start owner ps) j noPlaced .owner ≡ owner)
 parts-at [] number start owner j l = absurd (omega arith)
 parts-at (x ∷ ps) number start owner zero l = (omega arith, refl)

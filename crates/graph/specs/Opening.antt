@@ -35,11 +35,23 @@ abbrev pub onGraph : Result (Graph × ℕ) FileFault → (Graph → ℕ → Resu
 onGraph (Ok p) k = k (p .0) (p .1)
 onGraph (Err e) k = Err e
 
--- both readings, then the limit of rows, then the words, and what they then hold
-abbrev pub openGraph : List ℕ → List ℕ → Result (Opened × List ℕ) FileFault
-openGraph file words =
-    onGraph (firstReading file) (λ g n.
-    onChecked (secondReading g)
-    (cond (ltb mostRows (length (rows g))) (Err Rows)
+-- the rows of a graph that was read as n bytes: the limit of rows, then the room, then what the words hold
+abbrev pub laidFor : Graph → ℕ → List ℕ → Result (Opened × List ℕ) FileFault
+laidFor g n words =
+    cond (ltb mostRows (length (rows g))) (Err Rows)
     (cond (ltb (length words) (4 + 5 * length (rows g))) (Err Memory)
-    (Ok (openedAs g n, over (graphWords g) words)))))
+    (Ok (openedAs g n, over (graphWords g) words)))
+
+-- both readings, then the rows
+abbrev pub openGraph : List ℕ → List ℕ → Result (Opened × List ℕ) FileFault
+openGraph file words = onGraph (firstReading file) (λ g n. onChecked (secondReading g) (laidFor g n words))
+
+-- the answer, and what the words hold afterwards: a refusal leaves them as they were
+abbrev pub leaving : List ℕ → Result (Opened × List ℕ) FileFault → Result Opened FileFault × List ℕ
+leaving words (Ok p) = (Ok (p .0), p .1)
+leaving words (Err e) = (Err e, words)
+
+-- an answer, with the words that it leaves
+abbrev pub withWords : Result Opened FileFault → List ℕ → Result (Opened × List ℕ) FileFault
+withWords (Ok o) ws = Ok (o, ws)
+withWords (Err e) ws = Err e

@@ -6,6 +6,7 @@ mod features;
 mod index;
 mod lookup;
 mod named;
+pub mod opening;
 mod parts;
 mod reading;
 mod references;

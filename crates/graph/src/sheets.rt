@@ -14,9 +14,9 @@ pub(crate) const MAX_ROWS: u32 = 262_144;
 const NONE: u32 = u32::MAX;
 
 // The words before the rows, and the words of a row.
-const HEAD: usize = 4;
+pub(crate) const HEAD: usize = 4;
 
-const WIDTH: usize = 5;
+pub(crate) const WIDTH: usize = 5;
 
 fn mate_word(mate: Option<u32>) -> u32
     ensures { λ r. ⌜ r ≡ mateWord mate ⌝ }

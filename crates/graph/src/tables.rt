@@ -36,8 +36,9 @@ pub(crate) struct Seat {
 }
 
 // Where everything stands in a graph file that the first reading has accepted: the packages, the starts of the
-// dependency records, those of the feature records, the starts of all dependency and feature records in file order, and the features by package
-// and name.
+// dependency records, those of the feature records, both in file order with their owners, and the features by
+// package and name.
+#[derive(Drop)]
 pub(crate) struct Directory<'a> {
     pub index: Index<'a>,
     pub counts: Counts,
