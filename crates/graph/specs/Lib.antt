@@ -14,3 +14,4 @@ pub mod Sheets
 pub mod Parts
 pub mod Laying
 pub mod Checks
+pub mod Refusals

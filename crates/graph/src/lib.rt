@@ -10,6 +10,7 @@ pub mod opening;
 mod parts;
 mod reading;
 mod references;
+pub mod refusals;
 pub mod rows;
 mod rules;
 mod second;
