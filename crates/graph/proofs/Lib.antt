@@ -21,3 +21,4 @@ pub mod Namings
 pub mod OpenLaw
 pub mod RulesStand
 pub mod Opens
+pub mod Worked

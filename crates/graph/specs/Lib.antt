@@ -15,3 +15,4 @@ pub mod Parts
 pub mod Laying
 pub mod Checks
 pub mod Refusals
+pub mod Examples

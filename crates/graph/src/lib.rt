@@ -1,6 +1,7 @@
 // Graph files: opening one, and its rule rows.
 mod contents;
 mod directory;
+pub mod examples;
 pub mod faults;
 mod features;
 mod index;

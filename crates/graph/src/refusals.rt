@@ -80,11 +80,13 @@ pub fn refusal_of(fault: FileFault) -> Refusal
     ensures { λ r. ⌜ r ≡ refusalOf fault ⌝ }
 {
     match fault {
-        FileFault::Record(InRecord {
-            number,
-            start,
-            fault,
-        }) => Refusal {
+        FileFault::Record(
+            InRecord {
+                number,
+                start,
+                fault,
+            },
+        ) => Refusal {
             number: number_of(fault),
             record: number,
             start,
