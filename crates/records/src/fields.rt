@@ -18,7 +18,7 @@ use text::parts::Part;
 use text::strings::read_feature_string;
 
 // A part of a record, if it is a name.
-pub fn name_of<'a>(text: Part<'a>) -> Result<Part<'a>, InField>
+fn name_of<'a>(text: Part<'a>) -> Result<Part<'a>, InField>
     ensures { λ r. ⌜ mapped piece r ≡ nameOf (piece (text .entry)) ⌝ }
 {
     let field = text.at;
@@ -29,7 +29,7 @@ pub fn name_of<'a>(text: Part<'a>) -> Result<Part<'a>, InField>
 }
 
 // A part of a record, if it is a feature string.
-pub fn form_of<'a>(text: Part<'a>) -> Result<FeatureString<'a>, InField>
+fn form_of<'a>(text: Part<'a>) -> Result<FeatureString<'a>, InField>
     ensures { λ r. ⌜ mapped form r ≡ formOf (piece (text .entry)) ⌝ }
 {
     let field = text.at;
@@ -45,7 +45,7 @@ pub fn form_of<'a>(text: Part<'a>) -> Result<FeatureString<'a>, InField>
 
 impl<'a> Reader<'a> {
     // The next byte.
-    pub fn byte(&mut self) -> Result<u8, RecordFault>
+    fn byte(&mut self) -> Result<u8, RecordFault>
         ensures { λ r. ⌜ outcome r (view (now (self .exit))) ≡ byteField (view (now (self .entry))) ⌝ }
     {
         match self.rest {
@@ -60,7 +60,7 @@ impl<'a> Reader<'a> {
     }
 
     // The next two bytes, as a number.
-    pub fn word(&mut self) -> Result<u16, RecordFault>
+    fn word(&mut self) -> Result<u16, RecordFault>
         ensures { λ r. ⌜ outcome r (view (now (self .exit))) ≡ wordField (view (now (self .entry))) ⌝ }
     {
         match self.rest {
@@ -75,7 +75,7 @@ impl<'a> Reader<'a> {
     }
 
     // A string: one length byte, and that many bytes.
-    pub fn string(&mut self) -> Result<Part<'a>, RecordFault>
+    fn string(&mut self) -> Result<Part<'a>, RecordFault>
         ensures { λ r. ⌜ outcomeBy piece r (view (now (self .exit))) ≡ stringField (view (now (self .entry))) ⌝ }
     {
         match self.rest {
@@ -103,7 +103,7 @@ impl<'a> Reader<'a> {
     }
 
     // A string that is a feature string.
-    pub fn form(&mut self) -> Result<FeatureString<'a>, RecordFault>
+    fn form(&mut self) -> Result<FeatureString<'a>, RecordFault>
         ensures { λ r. ⌜ outcomeBy form r (view (now (self .exit))) ≡ formField (view (now (self .entry))) ⌝ }
     {
         let text = self.string()?;
@@ -112,7 +112,7 @@ impl<'a> Reader<'a> {
     }
 
     // A byte that is 0 or 1.
-    pub fn switch(&mut self) -> Result<bool, RecordFault>
+    fn switch(&mut self) -> Result<bool, RecordFault>
         ensures { λ r. ⌜ outcome r (view (now (self .exit))) ≡ switchField (view (now (self .entry))) ⌝ }
     {
         let field = self.at;
@@ -124,7 +124,7 @@ impl<'a> Reader<'a> {
     }
 
     // An edge kind.
-    pub fn edge(&mut self) -> Result<Edge, RecordFault>
+    fn edge(&mut self) -> Result<Edge, RecordFault>
         ensures { λ r. ⌜ outcome r (view (now (self .exit))) ≡ edgeField (view (now (self .entry))) ⌝ }
     {
         let field = self.at;
@@ -168,7 +168,7 @@ impl<'a> Reader<'a> {
     }
 
     // A count byte, and that many names.
-    pub fn names(&mut self) -> Result<Strings<'a>, RecordFault>
+    fn names(&mut self) -> Result<Strings<'a>, RecordFault>
         ensures { λ r. ⌜ outcomeBy texts r (view (now (self .exit))) ≡ namesField (view (now (self .entry))) ⌝ }
     {
         let count = self.byte()?;
@@ -180,7 +180,7 @@ impl<'a> Reader<'a> {
     }
 
     // A count byte, and that many feature strings.
-    pub fn forms(&mut self) -> Result<Strings<'a>, RecordFault>
+    fn forms(&mut self) -> Result<Strings<'a>, RecordFault>
         ensures { λ r. ⌜ outcomeBy forms r (view (now (self .exit))) ≡ formsField (view (now (self .entry))) ⌝ }
     {
         let count = self.byte()?;
