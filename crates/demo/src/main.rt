@@ -1,25 +1,57 @@
-// Reads standard input line by line as feature strings, and says what each is.
-mod report;
+// Opens the graph file on standard input, and prints its counts and rule rows, or why it is refused.
+mod lines;
+mod opened;
 
-use crate::report::Reading;
-use crate::report::ReadingDisplay;
-use crate::report::Tally;
+use crate::lines::Counts;
+use crate::lines::CountsDisplay;
+use crate::lines::Mate;
+use crate::lines::RefusalLine;
+use crate::lines::RefusalLineDisplay;
+use crate::lines::RowLine;
+use crate::lines::RowLineDisplay;
+use crate::opened::OpenedGraph;
+use crate::opened::open_file;
+use graph::refusals::refusal_of;
 use std::error::AnyError;
-use std::io::BufRead;
-use std::io::BufReader;
-use text::strings::read_feature_string;
+use std::io::BufWriter;
+use std::io::Read;
+use std::io::Write;
+
+fn print_graph(out: &mut impl Write, graph: &OpenedGraph) -> Result<(), AnyError> {
+    let counts = Counts {
+        opened: graph.counts,
+    };
+    writeln!(out, "{counts}")?;
+    for (number, row) in graph.rows().chunks_exact(5).enumerate() {
+        if let [from, with, to, lane, cross] = row {
+            let line = RowLine {
+                number,
+                from: *from,
+                mate: Mate::of_word(*with),
+                to: *to,
+                lane: *lane,
+                cross: *cross,
+            };
+            writeln!(out, "{line}")?;
+        }
+    }
+    Ok(())
+}
 
 fn run(rt: &LibcRuntime) -> Result<(), AnyError> {
-    let mut tally = Tally::new();
-    for line in BufReader::new(rt.stdin()).split(rt.alloc(), b'\n') {
-        let line = line?;
-        let answer = read_feature_string(line.as_slice());
-        let number = tally.count(answer.is_ok());
-        let reading = Reading { answer };
-        println!(rt, "{number}: {reading}")?;
+    let mut file = Vec::new(rt.alloc());
+    rt.stdin().read_to_end(&mut file)?;
+    let mut out = BufWriter::new(rt.stdout());
+    match open_file(rt.alloc(), file.as_slice())? {
+        Ok(graph) => print_graph(&mut out, &graph)?,
+        Err(fault) => {
+            let line = RefusalLine {
+                refusal: refusal_of(fault),
+            };
+            writeln!(out, "{line}")?;
+        }
     }
-    let Tally { read, refused } = tally;
-    println!(rt, "strings: {read} read, {refused} refused")?;
+    out.flush()?;
     Ok(())
 }
 

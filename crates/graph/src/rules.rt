@@ -5,6 +5,7 @@ ghost use lib.ListN.{length};
 ghost use Rattle.std.specs.shelf.Lists.{joined};
 ghost use Rattle.records.specs.Encoding.{bit, edgeNumber};
 ghost use Rattle.records.specs.Bodies.{dependencyView, texts};
+ghost use Rattle.std.specs.declared.option.Option.the-variants.{None};
 ghost use Rattle.graph.specs.Law.{dependencyCount};
 ghost use Rattle.graph.specs.Laying.{its, Told, askRows, dependencyRows};
 ghost use Rattle.graph.specs.Places.{feat, featuresOf, procOf, number};
@@ -25,6 +26,19 @@ fn edge_number(edge: Edge) -> u32
         Edge::Normal => 0,
         Edge::Build => 1,
         Edge::Dev => 2,
+    }
+}
+
+// A row with one premise.
+fn lone_row(from: u32, to: u32, lane: u32, cross: bool) -> Row
+    ensures { λ r. ⌜ r ≡ record { from = from; mate = None; to = to; lane = lane; cross = cross } ⌝ }
+{
+    Row {
+        from,
+        mate: None,
+        to,
+        lane,
+        cross,
     }
 }
 
@@ -125,29 +139,9 @@ impl<'a> Directory<'a> {
         let end = u32::from(d.end);
         let mut laid = count;
         if !d.optional {
-            laid = lay(
-                words,
-                laid,
-                Row {
-                    from: owner,
-                    mate: None,
-                    to: item,
-                    lane,
-                    cross: false,
-                },
-            );
+            laid = lay(words, laid, lone_row(owner, item, lane, false));
         }
-        laid = lay(
-            words,
-            laid,
-            Row {
-                from: item,
-                mate: None,
-                to: end,
-                lane,
-                cross: true,
-            },
-        );
+        laid = lay(words, laid, lone_row(item, end, lane, true));
         if d.defaults {
             laid = self.ask_rows(words, laid, item, lane, end, b"default");
         }
