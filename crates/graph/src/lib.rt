@@ -1,4 +1,6 @@
 // Graph files: opening one, and its rule rows.
+
+#![tactic(auto)]
 mod contents;
 mod directory;
 pub mod examples;

@@ -1,12 +1,12 @@
 -- Each field reads just what its encoding writes.
-use Rattle.std.proofs.Common.{◌≡◌, ℕ, zero, suc, ◌+◌, ◌*◌, ◌/◌, ◌%◌, ◌<◌, ◌≤◌, Bool, true, false, cond, eqb, ltb, List, [], ◌∷◌, ◌++◌, length, take, drop, Ok, Err, Result, sym, refl, ap, ◌∙◌, subst, append-nil, arith}
+use Rattle.std.proofs.Common.{◌≡◌, ℕ, ◌+◌, ◌*◌, ◌<◌, ◌≤◌, Bool, true, false, cond, eqb, ltb, List, [], ◌∷◌, ◌++◌, length, take, drop, Ok, Err, Result, sym, refl, ap, ◌∙◌, subst, arith}
 use Rattle.std.proofs.lemmas.List.{length-append, take-append-drop, length-take-le, take_at, drop_at}
-use Rattle.std.proofs.lemmas.Bool.{cond-true, cond-false, le-ltb, ltb-false, eqb-true, ne_eqb}
+use Rattle.std.proofs.lemmas.Bool.{cond-false, le-ltb, ltb-false, eqb-true, ne_eqb}
 use Rattle.std.specs.List.{flat_map, AllByRecursion as All}
 use Rattle.text.specs.declared.faults.StringFault.{StringFault}
 use Rattle.text.specs.declared.faults.StringFault.TheVariants.{NoForm}
 use Rattle.text.specs.Names.{Name}
-use Rattle.text.specs.Forms.{Form, Piece, whole, spell, Lawful, placed, unplaced}
+use Rattle.text.specs.Forms.{Form, Piece, spell, Lawful, placed, unplaced}
 use Rattle.text.specs.Readers.{read_name, read_form}
 use Rattle.text.proofs.NameRuns.{name-law}
 use Rattle.text.proofs.FormLaws.{form-law, unplaced-placed}
@@ -15,10 +15,9 @@ use Rattle.records.specs.declared.faults.RecordFault.TheVariants.{Ragged, Mark}
 use Rattle.records.specs.declared.faults.InField.{InField}
 use Rattle.records.specs.declared.bodies.Edge.{Edge}
 use Rattle.records.specs.declared.bodies.Edge.TheVariants.{Normal, Build, Dev}
-use Rattle.records.specs.Fields.{View, Field, on_ok, and_then, give, byte_of, byte_field, word_of, word_field, string_of, in_field, in_record, name_of, form_of, switch_at, switch_field, edge_at, edge_field, closed_of, closed_field, header_field}
-use Rattle.records.specs.Bodies.{many, name_text, form_text, names_field, forms_field, values_field, Head, package_field, dependency_field}
-use Rattle.records.specs.Graphs.{Dependency}
-use Rattle.records.specs.Encoding.{two, string, list_bytes, value, bit, edge_number, package_body, dependency_body, LawfulDependency, Bytes}
+use Rattle.records.specs.Fields.{View, Field, on_ok, and_then, give, byte_of, byte_field, word_of, word_field, string_of, in_field, in_record, name_of, form_of, switch_at, switch_field, edge_at, edge_field}
+use Rattle.records.specs.Bodies.{many, name_text, form_text, names_field, forms_field, values_field, package_field, dependency_field}
+use Rattle.records.specs.Encoding.{two, string, list_bytes, value, bit, edge_number, Bytes}
 use Rattle.records.proofs.Numbers.{not-both, in-ok, two_is, two-value, bytes-split}
 use Rattle.records.proofs.Codes.{at, Coded, Closed, first, then-closed, closed-give, many-coded}
 

@@ -1,9 +1,8 @@
 -- Fields that read just what an encoding writes.
-use Rattle.std.proofs.Common.{◌≡◌, ℕ, zero, suc, ◌+◌, List, [], ◌∷◌, ◌++◌, length, Ok, Err, Result, sym, refl, ap, ◌∙◌, subst, append_assoc, append-nil, arith}
+use Rattle.std.proofs.Common.{◌≡◌, ℕ, zero, suc, ◌+◌, List, [], ◌∷◌, ◌++◌, length, Ok, Err, Result, sym, refl, ap, ◌∙◌, subst, append_assoc, arith}
 use Rattle.std.proofs.lemmas.List.{length-append}
 use Rattle.std.specs.List.{flat_map, AllByRecursion as All}
 use Rattle.records.specs.declared.faults.RecordFault.{RecordFault}
-use Rattle.records.specs.declared.faults.RecordFault.TheVariants.{Ragged}
 use Rattle.records.specs.Fields.{View, Field, on_ok, and_then, give, closed_of, closed_field}
 use Rattle.records.specs.Bodies.{many}
 use Rattle.records.specs.Encoding.{Bytes}

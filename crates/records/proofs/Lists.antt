@@ -1,13 +1,12 @@
 -- So many fields that each hold one string are the list of these strings.
-use Rattle.std.proofs.Common.{◌≡◌, ℕ, zero, suc, ◌+◌, Bool, true, false, cond, eqb, ltb, List, [], ◌∷◌, map, length, take, drop, Ok, Err, Result, sym, refl, ap, ◌∙◌, subst, arith}
+use Rattle.std.proofs.Common.{◌≡◌, ℕ, zero, suc, ◌+◌, eqb, ltb, List, [], ◌∷◌, map, length, take, drop, Ok, Err, Result, sym, refl, ap, ◌∙◌}
 use Rattle.std.proofs.lemmas.List.{map-id}
 use Rattle.std.proofs.lemmas.Bool.{cond_both}
 use Rattle.text.specs.declared.faults.StringFault.{StringFault}
 use Rattle.text.specs.Forms.{Form, Piece, unplaced}
 use Rattle.text.specs.Readers.{read_name, read_form}
 use Rattle.records.specs.declared.faults.RecordFault.{RecordFault}
-use Rattle.records.specs.declared.faults.InField.{InField}
-use Rattle.records.specs.Fields.{View, Field, on_ok, and_then, give, labelled, void, string_of, in_field, in_record, name_of, name_field, form_of, form_field}
+use Rattle.records.specs.Fields.{View, Field, on_ok, and_then, give, labelled, void, string_of, in_field, in_record, name_of, form_of}
 use Rattle.records.specs.Bodies.{many, name_text, form_text, listed, form_in, said}
 
 -- a reading that answers `val` of the string at the front, and leaves what follows it

@@ -1,5 +1,5 @@
 -- A loop over so many fields of one kind.
-use Rattle.std.proofs.Common.{◌≡◌, ℕ, suc, ◌+◌, ◌-◌, ◌<◌, List, [], ◌∷◌, Ok, Err, Result, sym, refl, ap, ◌∙◌, arith}
+use Rattle.std.proofs.Common.{◌≡◌, ℕ, suc, ◌+◌, ◌-◌, ◌<◌, List, ◌∷◌, Ok, Err, Result, sym, refl, ap, ◌∙◌, arith}
 use Rattle.records.specs.declared.faults.RecordFault.{RecordFault}
 use Rattle.records.specs.Fields.{View, Field, on_ok, and_then, give, labelled, void}
 use Rattle.records.specs.Bodies.{many}

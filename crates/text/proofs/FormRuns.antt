@@ -1,17 +1,16 @@
 -- The reader of feature strings reads by their grammar.
-use Rattle.std.proofs.Common.{◌≡◌, ℕ, ◌+◌, ◌<◌, ◌≤◌, Bool, true, false, cond, ◌&&◌, ◌||◌, eqb, ltb, List, [], ◌∷◌, ◌++◌, length, take, drop, Some, None, Ok, Err, Option, Result, sym, refl, ap, ◌∙◌, subst, append_assoc, append-nil, arith}
-use Rattle.std.proofs.lemmas.List.{take_at, drop_at, drop-drop, take_all, length_push}
+use Rattle.std.proofs.Common.{◌≡◌, ℕ, ◌+◌, ◌≤◌, Bool, true, ◌&&◌, eqb, ltb, List, [], ◌∷◌, ◌++◌, length, drop, Some, None, Ok, Option, sym, refl, ap, ◌∙◌, subst, append-nil, arith}
+use Rattle.std.proofs.lemmas.List.{take_at, drop_at, drop-drop}
 use Rattle.std.proofs.lemmas.Bool.{cond_both, cond-true, eqb-true, and_parts}
-use Rattle.text.specs.declared.faults.StringFault.{StringFault}
 use Rattle.text.specs.declared.faults.StringFault.TheVariants.{NoForm}
 use Rattle.text.specs.declared.strings.Link.{Link}
 use Rattle.text.specs.declared.strings.Link.TheVariants.{Switch, Strong, Weak}
 use Rattle.text.specs.declared.strings.State.{State}
 use Rattle.text.specs.declared.strings.State.TheVariants.{Start, First, Asked, Second, Last}
 use Rattle.text.specs.Names.{initial, inner, Inner, longest, Name}
-use Rattle.text.specs.Forms.{Form, plain, switch, strong, weak, Lawful, spell, Piece, whole, placed}
+use Rattle.text.specs.Forms.{Form, plain, switch, strong, weak, Lawful, spell, whole, placed}
 use Rattle.text.specs.Machines.{read_from}
-use Rattle.text.specs.Readers.{slash, question, colon, spelling, step, finish, from, upto, read_form, Room}
+use Rattle.text.specs.Readers.{slash, question, colon, spelling, step, finish, read_form, Room}
 use Rattle.text.proofs.Machines.{read_some}
 use Rattle.text.proofs.Steps.{first_goes, last_goes}
 

@@ -1,6 +1,6 @@
 -- Readers that take a string byte by byte, over any states and any grammar.
 use Rattle.std.proofs.Common.{◌≡◌, ℕ, zero, suc, ◌+◌, ◌<◌, ◌≤◌, List, [], ◌∷◌, ◌++◌, length, get_or, take, drop, Some, None, Ok, Err, Option, Result, sym, refl, ap, ◌∙◌, subst, append_assoc, append-nil, arith}
-use Rattle.std.proofs.lemmas.List.{at_drop_more, at_drop_all, length-append, length_push, take_all, take_at}
+use Rattle.std.proofs.lemmas.List.{at_drop_more, at_drop_all, length-append, length_push, take_at}
 use Rattle.text.specs.declared.faults.StringFault.{StringFault}
 use Rattle.text.specs.Machines.{read_from}
 use Rattle.text.specs.Prefixes.{Begins, Longest}

@@ -1,13 +1,13 @@
 -- The reader of names reads by the grammar of names.
-use Rattle.std.proofs.Common.{◌≡◌, ℕ, ◌+◌, ◌<◌, ◌≤◌, Bool, true, false, cond, ◌&&◌, eqb, ltb, List, [], ◌∷◌, ◌++◌, length, get_or, take, drop, Some, None, Ok, Err, Option, Result, sym, refl, ap, ◌∙◌, subst, append-nil, arith}
+use Rattle.std.proofs.Common.{◌≡◌, ℕ, ◌+◌, ◌<◌, ◌≤◌, true, ◌&&◌, ltb, List, [], ◌∷◌, ◌++◌, length, Some, None, Ok, Option, Result, sym, refl, ap, ◌∙◌, subst, append-nil, arith}
 use Rattle.std.proofs.ByRecursion.{All-push}
-use Rattle.std.proofs.lemmas.List.{length_push, take_all}
+use Rattle.std.proofs.lemmas.List.{length_push}
 use Rattle.std.proofs.lemmas.Bool.{cond-true, cond-false, cond_both, and_from, and_parts, ne_eqb, lt-ltb, ltb-true}
 use Rattle.text.specs.declared.faults.StringFault.{StringFault}
 use Rattle.text.specs.declared.faults.StringFault.TheVariants.{NoName}
 use Rattle.text.specs.Names.{initial, inner, Inner, longest, Name}
 use Rattle.text.specs.Forms.{Piece, whole}
-use Rattle.text.specs.Prefixes.{Begins, Longest}
+use Rattle.text.specs.Prefixes.{Begins}
 use Rattle.text.specs.Laws.{NameLaw}
 use Rattle.text.specs.Machines.{read_from}
 use Rattle.text.specs.Readers.{allowed, name_step, name_finish, read_name}

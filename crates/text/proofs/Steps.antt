@@ -1,5 +1,5 @@
 -- One byte more in a name, as the reader of feature strings takes it.
-use Rattle.std.proofs.Common.{◌≡◌, ℕ, ◌+◌, ◌<◌, Bool, true, ltb, Some, None, Option, sym, ap, ◌∙◌}
+use Rattle.std.proofs.Common.{◌≡◌, ℕ, ◌+◌, ◌<◌, Bool, true, ltb, Some, sym, ap, ◌∙◌}
 use Rattle.std.proofs.lemmas.Bool.{and_from, lt-ltb, cond-true}
 use Rattle.text.specs.declared.strings.Link.{Link}
 use Rattle.text.specs.declared.strings.State.{State}

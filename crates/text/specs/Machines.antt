@@ -1,6 +1,6 @@
 -- A reader that takes a string byte by byte. `step` gives the state after a byte, or none where no lawful string
 -- goes on so, and `finish` what is answered where the string ends.
-use Rattle.std.specs.Prelude.{ℕ, ◌+◌, List, [], ◌∷◌, Some, None, Ok, Err, Option, Result}
+use Rattle.std.specs.Prelude.{ℕ, ◌+◌, List, [], ◌∷◌, Some, None, Err, Option, Result}
 use Rattle.text.specs.declared.faults.StringFault.{StringFault}
 
 module _ {S A : Type 0} (step : S → ℕ → Option S) (finish : S → List ℕ → Result A StringFault) (fault : ℕ → StringFault) where

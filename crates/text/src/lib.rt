@@ -1,5 +1,7 @@
 // Names and feature strings: one grammar, one reading each.
 
+#![tactic(auto)]
+
 // What a name may begin with.
 macro_rules! initial {
     () => {

@@ -5,6 +5,6 @@ use Rattle.graph.proofs.examples.open_example.Goals as goal
 
 pub returns : goal.returns
 returns c = record {
-  opened = ap (λ p. p.0) c.open-graph.ensures.opened ∙ ap (λ q. (leaving (replicate 54 0) q).0) (examples.opens (replicate 54 0) (omega arith));
+  opened = ap (λ p. p.0) c.open_graph.ensures.opened ∙ ap (λ q. (leaving (replicate 54 0) q).0) (examples.opens (replicate 54 0) (omega arith));
   table = examples;
 }

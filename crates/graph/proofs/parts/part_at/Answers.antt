@@ -4,4 +4,4 @@ use Rattle.graph.specs.Parts.{part_in}
 use Rattle.graph.proofs.parts.part_at.Goals as goal
 
 pub returns : goal.returns
-returns c = c.first-part.ensures ∙ ap part_in (take_rest c.args.file.now c.args.start)
+returns c = c.first_part.ensures ∙ ap part_in (take_rest c.args.file.now c.args.start)

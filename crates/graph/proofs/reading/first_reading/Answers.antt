@@ -14,30 +14,30 @@ use Rattle.graph.proofs.reading.first_reading.Goals as goal
 sized : (file : List ℕ) → length file ≤ most_bytes → gathered begin (scan begin file) ≡ gathered_in file
 sized file l = sym (cond-false _ _ _ (le-ltb most_bytes (length file) l))
 
-pub returns-in-err-found : goal.returns-in-err-found
-returns-in-err-found c =
+pub returns-in_err-found : goal.returns-in_err-found
+returns-in_err-found c =
     let i = c.loop-found.index in
     let file = c.args.index.now.file.now in
     let st : Stand = stand_view c.loop-found.stand (keys i) in
-    let p = err_from_is_err_and c.from-residual.result c.from-residual.ensures.1 in
-    let h : record_at st (drop st.start file) ≡ Err c.in-err-found.field-0.0 = ap (record_at st) (sym (take_rest file st.start)) ∙ sym c.in-err-found.ensures in
+    let p = err_from_is_err_and c.from_residual.result c.from_residual.ensures.1 in
+    let h : record_at st (drop st.start file) ≡ Err c.in_err-found.field-0.0 = ap (record_at st) (sym (take_rest file st.start)) ∙ sym c.in_err-found.ensures in
     record {
-      value = ap (λ r. gathered_by r (keys i)) (p.1 ∙ ap (λ y. Err y) p.2) ∙ loop-stops file st _ c.loop-found.invariant.7 _ h ∙ sized file c.if-file-gt-MAX-BYTES.false;
+      value = ap (λ r. gathered_by r (keys i)) (p.1 ∙ ap (λ y. Err y) p.2) ∙ loop-stops file st _ c.loop-found.invariant.7 _ h ∙ sized file c.if-file-gt-MAX_BYTES.false;
       whole = c.loop-found.invariant.5;
       file = c.loop-found.invariant.4;
       few = c.loop-found.invariant.6;
       featured = subst (λ r. Featured r i.count) (sym p.1) tt;
     }
 
-pub returns-then-is-end : goal.returns-then-is-end
-returns-then-is-end c =
+pub returns-then-is_end : goal.returns-then-is_end
+returns-then-is_end c =
     let i = c.loop-found.index in
     let file = c.args.index.now.file.now in
     let st : Stand = stand_view c.loop-found.stand (keys i) in
-    let x = found_view c.in-ok-found.found in
-    let h : record_at st (drop st.start file) ≡ Ok x = ap (record_at st) (sym (take_rest file st.start)) ∙ sym c.in-ok-found.ensures in
+    let x = found_view c.in_ok-found.found in
+    let h : record_at st (drop st.start file) ≡ Ok x = ap (record_at st) (sym (take_rest file st.start)) ∙ sym c.in_ok-found.ensures in
     record {
-      value = loop-ends file st _ c.loop-found.invariant.7 x h (sym c.is-end.ensures ∙ c.if-is-end.true) ∙ sized file c.if-file-gt-MAX-BYTES.false;
+      value = loop-ends file st _ c.loop-found.invariant.7 x h (sym c.is_end.ensures ∙ c.if-is_end.true) ∙ sized file c.if-file-gt-MAX_BYTES.false;
       whole = c.loop-found.invariant.5;
       file = c.loop-found.invariant.4;
       few = c.loop-found.invariant.6;
@@ -49,16 +49,16 @@ noted-stand-requires c =
     let i = c.loop-found.index in
     let file = c.args.index.now.file.now in
     let st : Stand = stand_view c.loop-found.stand (keys i) in
-    let x = found_view c.in-ok-found.found in
-    let h : record_at st (drop st.start file) ≡ Ok x = ap (record_at st) (sym (take_rest file st.start)) ∙ sym c.in-ok-found.ensures in
+    let x = found_view c.in_ok-found.found in
+    let h : record_at st (drop st.start file) ≡ Ok x = ap (record_at st) (sym (take_rest file st.start)) ∙ sym c.in_ok-found.ensures in
     let room : i.count ≤ length i.entries = omega (arith, c.loop-found.invariant.6, c.loop-found.invariant.5.full) in
     let n : length (keys i) ≡ i.count = keys_length i.file.now i.entries i.count room in
     let inside = next-within file st _ c.loop-found.invariant.7 x h c.loop-found.invariant.0 in
-    let limit = c.if-file-gt-MAX-BYTES.false in
+    let limit = c.if-file-gt-MAX_BYTES.false in
     let same : length i.file.now ≡ length file = ap length c.loop-found.invariant.4 in
     record {
       whole = c.loop-found.invariant.5;
-      fits = subst (λ f. Fits f i.count st.start c.in-ok-found.found.content) (sym c.loop-found.invariant.4) (found-fits file st i.count c.in-ok-found.found n c.loop-found.invariant.0 h);
+      fits = subst (λ f. Fits f i.count st.start c.in_ok-found.found.content) (sym c.loop-found.invariant.4) (found-fits file st i.count c.in_ok-found.found n c.loop-found.invariant.0 h);
       small = (omega (arith, inside, limit), omega (arith, c.loop-found.invariant.0, c.loop-found.invariant.1, limit), omega (arith, c.loop-found.invariant.0, c.loop-found.invariant.1, c.loop-found.invariant.2, limit), omega (arith, c.loop-found.invariant.0, c.loop-found.invariant.1, c.loop-found.invariant.3, limit), omega (arith, limit, same));
     }
 
@@ -67,11 +67,11 @@ loop-found-preserved c =
     let i = c.loop-found.index in
     let file = c.args.index.now.file.now in
     let st : Stand = stand_view c.loop-found.stand (keys i) in
-    let x = found_view c.in-ok-found.found in
-    let h : record_at st (drop st.start file) ≡ Ok x = ap (record_at st) (sym (take_rest file st.start)) ∙ sym c.in-ok-found.ensures in
+    let x = found_view c.in_ok-found.found in
+    let h : record_at st (drop st.start file) ≡ Ok x = ap (record_at st) (sym (take_rest file st.start)) ∙ sym c.in_ok-found.ensures in
     let e = c.noted-stand.ensures.stand in
     let inside = next-within file st _ c.loop-found.invariant.7 x h c.loop-found.invariant.0 in
-    let more = loop-goes file st _ c.loop-found.invariant.7 x h (sym c.is-end.ensures ∙ c.if-is-end.false) in (
+    let more = loop-goes file st _ c.loop-found.invariant.7 x h (sym c.is_end.ensures ∙ c.if-is_end.false) in (
       omega (arith, inside, ap (λ s. s.start) e),
       omega (arith, c.loop-found.invariant.1, ap (λ s. s.start) e, ap (λ s. s.number) e),
       omega (arith, c.loop-found.invariant.2, packages-step x.content st.packages, ap (λ s. s.packages) e, ap (λ s. s.number) e),

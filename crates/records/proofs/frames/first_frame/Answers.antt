@@ -4,6 +4,6 @@ use Rattle.records.proofs.frames.first_frame.Goals as goal
 
 pub returns : goal.returns
 returns c =
-    frame-goes c.args.bytes.now c.from-le-bytes-long.result c.split-at.result.0.now c.split-at.result.1.now _
-    (search rules) c.from-le-bytes-long.ensures (search rules) c.split-at.ensures.front c.split-at.ensures.back
-    (inside-goes c.split-at.result.0.now c.split-at.result.1.now c.from-le-bytes-kind.result (search rules) c.from-le-bytes-kind.ensures)
+    frame-goes c.args.bytes.now c.from_le_bytes-long.result c.split_at.result.0.now c.split_at.result.1.now _
+    (search rules) c.from_le_bytes-long.ensures (search rules) c.split_at.ensures.front c.split_at.ensures.back
+    (inside-goes c.split_at.result.0.now c.split_at.result.1.now c.from_le_bytes-kind.result (search rules) c.from_le_bytes-kind.ensures)

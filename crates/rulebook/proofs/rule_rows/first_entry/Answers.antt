@@ -9,7 +9,7 @@ returns-in-Some g c =
     let n = g.R.RuleRows.count c.args.rows.now in
     let entry : ℕ → Option Entry = λ k. entry_in (g.R.RuleRows.rule c.args.rows.now k) c.args.item in
     let h : c.loop-r.r < n = omega arith in
-    let e : entry c.loop-r.r ≡ Some c.in-Some.entry = sym (c.entry-in.ensures ∙ ap (λ o. entry_in o c.args.item) c.rule.ensures) ∙ c.in-Some.is in
+    let e : entry c.loop-r.r ≡ Some c.in-Some.entry = sym (c.entry_in.ensures ∙ ap (λ o. entry_in o c.args.item) c.rule.ensures) ∙ c.in-Some.is in
     sym (c.loop-r.invariant ∙ first-hit entry n c.loop-r.r c.in-Some.entry h e)
 
 pub loop-r-preserved : goal.loop-r-preserved
@@ -17,7 +17,7 @@ loop-r-preserved g c =
     let n = g.R.RuleRows.count c.args.rows.now in
     let entry : ℕ → Option Entry = λ k. entry_in (g.R.RuleRows.rule c.args.rows.now k) c.args.item in
     let h : c.loop-r.r < n = omega arith in
-    let e : entry c.loop-r.r ≡ None = sym (c.entry-in.ensures ∙ ap (λ o. entry_in o c.args.item) c.rule.ensures) ∙ c.in-None.is in
+    let e : entry c.loop-r.r ≡ None = sym (c.entry_in.ensures ∙ ap (λ o. entry_in o c.args.item) c.rule.ensures) ∙ c.in-None.is in
     c.loop-r.invariant ∙ first-miss entry n c.loop-r.r h e
 
 pub returns : goal.returns

@@ -6,8 +6,8 @@ use Rattle.text.proofs.FormRuns.{room-more}
 use Rattle.text.proofs.FormLaws.{form-law}
 use Rattle.text.proofs.strings.read_feature_string.Goals as goal
 
-pub returns-in-default : goal.returns-in-default
-returns-in-default c =
+pub returns-in_default : goal.returns-in_default
+returns-in_default c =
     let t = c.args.text.now in
     let e : Err (NoForm c.loop-at.at) ≡ read_form t = loop-more step finish NoForm (read_form t) t c.loop-at.state c.loop-at.at None c.loop-at-test.true (cc) c.loop-at.invariant.1 in
     record { value = e; law = form-law t _ e }

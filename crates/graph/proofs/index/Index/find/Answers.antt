@@ -12,4 +12,4 @@ pub loop-upto-preserved : goal.loop-upto-preserved
 loop-upto-preserved c =
     let s = c.args.self.now in
     let upto = c.loop-upto.upto in
-    search-goes s.file.now s.entries s.heads s.count c.requires.linked c.args.owner c.args.name.now upto (upto - 1) (entry_at s.entries (upto - 1)).next refl (omega arith) c.loop-upto.invariant.0 refl c.loop-upto.invariant.1.0 c.loop-upto.invariant.1.1 (sym c.is-at.ensures ∙ c.if-is-at.false)
+    search-goes s.file.now s.entries s.heads s.count c.requires.linked c.args.owner c.args.name.now upto (upto - 1) (entry_at s.entries (upto - 1)).next refl (omega arith) c.loop-upto.invariant.0 refl c.loop-upto.invariant.1.0 c.loop-upto.invariant.1.1 (sym c.is_at.ensures ∙ c.if-is_at.false)

@@ -13,4 +13,4 @@ returns c =
     let j = c.args.j in
     let x = get_or (placed g) j no_placed in
     let v = c.entry.ensures.value in
-    c.answered.ensures ∙ one-answers (λ y. unknown_end g y.part) x _ _ _ (ap (λ o. (j + o) + 2) v.1 ∙ sym (placed-number g j c.requires.within)) v.0 (c.unknown-end-unknown.ensures ∙ ap (unknown_end_content g) c.content.ensures.value)
+    c.answered.ensures ∙ one-answers (λ y. unknown_end g y.part) x _ _ _ (ap (λ o. (j + o) + 2) v.1 ∙ sym (placed-number g j c.requires.within)) v.0 (c.unknown_end-unknown.ensures ∙ ap (unknown_end_content g) c.content.ensures.value)

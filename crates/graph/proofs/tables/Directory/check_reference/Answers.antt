@@ -14,5 +14,5 @@ returns c =
     let j = c.args.j in
     let x = get_or (placed g) j no_placed in
     let v = c.entry-entry.ensures.value in
-    let u = c.unknown-in-unknown.ensures ∙ (λ i. unknown_in_content g (v.1 i) (c.content.ensures.value i)) in
+    let u = c.unknown_in-unknown.ensures ∙ (λ i. unknown_in_content g (v.1 i) (c.content.ensures.value i)) in
     c.answered.ensures ∙ one-answers (λ y. unknown_in g y.owner y.part) x _ _ _ (ap (λ o. (j + o) + 2) v.1 ∙ sym (placed-number g j c.requires.within)) v.0 u

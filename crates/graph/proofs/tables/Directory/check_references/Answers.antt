@@ -5,21 +5,21 @@ use Rattle.graph.specs.Second.{placed, unknown_in, references}
 use Rattle.graph.proofs.Namings.{check-goes, check-stops, check-ends}
 use Rattle.graph.proofs.tables.Directory.check_references.Goals as goal
 
-pub returns-in-err-check-reference : goal.returns-in-err-check-reference
-returns-in-err-check-reference c =
+pub returns-in_err-check_reference : goal.returns-in_err-check_reference
+returns-in_err-check_reference c =
     let g = its c.args.self.now in
-    let l : c.loop-j.j < length (placed g) = omega (arith, c.loop-j-test.true, c.part-count-j-end.ensures) in
-    let p = err_from_is_err_and c.from-residual.result c.from-residual.ensures.1 in
-    p.1 ∙ ap (λ e. Err e) p.2 ∙ check-stops (λ y. unknown_in g y.owner y.part) (placed g) c.loop-j.j (references g (placed g)) c.loop-j.invariant l _ c.in-err-check-reference.ensures
+    let l : c.loop-j.j < length (placed g) = omega (arith, c.loop-j-test.true, c.part_count-j-end.ensures) in
+    let p = err_from_is_err_and c.from_residual.result c.from_residual.ensures.1 in
+    p.1 ∙ ap (λ e. Err e) p.2 ∙ check-stops (λ y. unknown_in g y.owner y.part) (placed g) c.loop-j.j (references g (placed g)) c.loop-j.invariant l _ c.in_err-check_reference.ensures
 
 pub loop-j-preserved : goal.loop-j-preserved
 loop-j-preserved c =
     let g = its c.args.self.now in
-    let l : c.loop-j.j < length (placed g) = omega (arith, c.loop-j-test.true, c.part-count-j-end.ensures) in
-    check-goes (λ y. unknown_in g y.owner y.part) (placed g) c.loop-j.j (references g (placed g)) c.loop-j.invariant l c.in-ok-check-reference.ensures
+    let l : c.loop-j.j < length (placed g) = omega (arith, c.loop-j-test.true, c.part_count-j-end.ensures) in
+    check-goes (λ y. unknown_in g y.owner y.part) (placed g) c.loop-j.j (references g (placed g)) c.loop-j.invariant l c.in_ok-check_reference.ensures
 
 pub returns : goal.returns
 returns c =
     let g = its c.args.self.now in
-    let l : length (placed g) ≤ c.loop-j.j = omega (arith, c.loop-j-test.false, c.part-count-j-end.ensures) in
+    let l : length (placed g) ≤ c.loop-j.j = omega (arith, c.loop-j-test.false, c.part_count-j-end.ensures) in
     check-ends (λ y. unknown_in g y.owner y.part) (placed g) c.loop-j.j (references g (placed g)) c.loop-j.invariant l

@@ -3,8 +3,8 @@ use Rattle.graph.specs.Laying.{its}
 use Rattle.graph.proofs.Befores.{features-next}
 use Rattle.graph.proofs.tables.Directory.feature_count.Goals as goal
 
-pub overflow-sub-result : goal.overflow-sub-result
-overflow-sub-result c = omega (arith, c.first-feature-next.ensures.value, c.first-feature.ensures.value, features-next (its c.args.self.now) c.args.p c.requires.within)
+pub overflow_sub-result : goal.overflow_sub-result
+overflow_sub-result c = omega (arith, c.first_feature-next.ensures.value, c.first_feature.ensures.value, features-next (its c.args.self.now) c.args.p c.requires.within)
 
 pub returns : goal.returns
-returns c = omega (arith, c.first-feature-next.ensures.value, c.first-feature.ensures.value, features-next (its c.args.self.now) c.args.p c.requires.within)
+returns c = omega (arith, c.first_feature-next.ensures.value, c.first_feature.ensures.value, features-next (its c.args.self.now) c.args.p c.requires.within)

@@ -11,16 +11,16 @@ pub loop-k-preserved : goal.loop-k-preserved
 loop-k-preserved c =
     let s = c.args.self.now in
     let v = c.args.value in
-    let l : c.loop-k.k < length (dependencies_of (its s) c.args.p) = omega (arith, c.loop-k-test.true, c.dependency-count-k-end.ensures) in (
-      c.named-row-laid.ensures.few,
-      each_more (λ k. one_named (its s) v.from v.name.now v.switches (bytes_in v.feature) (number (its s) (dep c.args.p k))) (dependencies_of (its s) c.args.p) no_dependency c.loop-k.k (sheet c.loop-k.words c.loop-k.laid) _ c.loop-k.invariant.1 (sheet c.named-row-laid.new.words c.named-row-laid.result) l c.named-row-laid.ensures.sheet,
+    let l : c.loop-k.k < length (dependencies_of (its s) c.args.p) = omega (arith, c.loop-k-test.true, c.dependency_count-k-end.ensures) in (
+      c.named_row-laid.ensures.few,
+      each_more (λ k. one_named (its s) v.from v.name.now v.switches (bytes_in v.feature) (number (its s) (dep c.args.p k))) (dependencies_of (its s) c.args.p) no_dependency c.loop-k.k (sheet c.loop-k.words c.loop-k.laid) _ c.loop-k.invariant.1 (sheet c.named_row-laid.new.words c.named_row-laid.result) l c.named_row-laid.ensures.sheet,
     )
 
 pub returns : goal.returns
 returns c =
     let s = c.args.self.now in
     let v = c.args.value in
-    let l : length (dependencies_of (its s) c.args.p) ≤ c.loop-k.k = omega (arith, c.loop-k-test.false, c.dependency-count-k-end.ensures) in
+    let l : length (dependencies_of (its s) c.args.p) ≤ c.loop-k.k = omega (arith, c.loop-k-test.false, c.dependency_count-k-end.ensures) in
     record {
       sheet = each_all (λ k. one_named (its s) v.from v.name.now v.switches (bytes_in v.feature) (number (its s) (dep c.args.p k))) (dependencies_of (its s) c.args.p) no_dependency c.loop-k.k (sheet c.loop-k.words c.loop-k.laid) _ c.loop-k.invariant.1 l;
       few = c.loop-k.invariant.0;

@@ -9,12 +9,12 @@ use Rattle.graph.proofs.tables.Directory.of.Goals as goal
 pub loop-frame-init : goal.loop-frame-init
 loop-frame-init c = (c.blank-directory.ensures.0, refl, midway_start c.args.index.file.now (tables_of c.blank-directory.result) c.requires.0 c.requires.1.says)
 
-pub returns-in-default : goal.returns-in-default
-returns-in-default c =
+pub returns-in_default : goal.returns-in_default
+returns-in_default c =
     let s = c.loop-frame.seat in
     let file = c.args.index.file.now in
-    let here : frame_of (drop s.start file) ≡ Err c.in-default.field-0 = ap frame_of (sym (take_rest file s.start)) ∙ sym c.in-default.ensures in
-    absurd (never-faulty file (tables_of c.loop-frame.directory) s.start s.packages s.dependencies s.features c.loop-frame.invariant.2 c.in-default.field-0 here)
+    let here : frame_of (drop s.start file) ≡ Err c.in_default.field-0 = ap frame_of (sym (take_rest file s.start)) ∙ sym c.in_default.ensures in
+    absurd (never-faulty file (tables_of c.loop-frame.directory) s.start s.packages s.dependencies s.features c.loop-frame.invariant.2 c.in_default.field-0 here)
 
 pub returns-then-frame-eq-END : goal.returns-then-frame-eq-END
 returns-then-frame-eq-END c =

@@ -14,8 +14,8 @@ returns c =
     let p = c.args.p in
     record {
       sheet =
-          c.rows-of-features.ensures.sheet
-          ∙ ap (λ s. lays s (each (λ (k : ℕ) (f : Feature). flat_map (value_rows g p (number g (feat p k))) f.values) 0 (features_of g p))) c.rows-of-dependencies-laid.ensures.sheet
+          c.rows_of_features.ensures.sheet
+          ∙ ap (λ s. lays s (each (λ (k : ℕ) (f : Feature). flat_map (value_rows g p (number g (feat p k))) f.values) 0 (features_of g p))) c.rows_of_dependencies-laid.ensures.sheet
           ∙ sym (lays-append (sheet c.args.words.now c.args.count) (each (λ k. dependency_rows g p (number g (dep p k))) 0 (dependencies_of g p)) (each (λ (k : ℕ) (f : Feature). flat_map (value_rows g p (number g (feat p k))) f.values) 0 (features_of g p)));
-      few = c.rows-of-features.ensures.few;
+      few = c.rows_of_features.ensures.few;
     }

@@ -12,5 +12,5 @@ returns c =
     let n = c.args.count in
     let all = c.requires.all in
     let k = c.requires.told.counted in
-    (λ i. set (set (set (set (c.lay-rows.ensures.sheet i).words 0 (k i).packages) 1 (k i).dependencies) 2 (k i).features) 3 (all.0 i))
+    (λ i. set (set (set (set (c.lay_rows.ensures.sheet i).words 0 (k i).packages) 1 (k i).dependencies) 2 (k i).features) 3 (all.0 i))
     ∙ words-written g ws (subst (λ m. m ≤ most_rows) all.0 all.1) (subst (λ m. 4 + 5 * m ≤ length ws) all.0 c.requires.room)

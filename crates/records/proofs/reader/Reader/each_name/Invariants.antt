@@ -5,4 +5,4 @@ use Rattle.records.proofs.reader.Reader.each_name.Given as goal
 
 -- what is left to read gives the answer
 abbrev pub invariant-loop-i : goal.invariant-loop-i
-invariant-loop-i l = void (many name_text (l.count - l.-i)) (view l.self) ≡ void (many name_text l.count) (view l.initial.self)
+invariant-loop-i l = void (many name_text (l.count - l._i)) (view l.self) ≡ void (many name_text l.count) (view l.initial.self)

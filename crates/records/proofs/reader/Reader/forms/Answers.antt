@@ -6,6 +6,6 @@ use Rattle.records.proofs.reader.Reader.forms.Goals as goal
 
 pub returns : goal.returns
 returns c =
-    ap (labelled (map form_in (listed c.in-ok-count.count (view c.byte.new.self).left))) c.in-ok-each-form.ensures
-    ∙ forms-told c.in-ok-count.count (view c.byte.new.self)
-    ∙ ap (λ r. on_ok r (many form_text)) c.in-ok-count.ensures
+    ap (labelled (map form_in (listed c.in_ok-count.count (view c.byte.new.self).left))) c.in_ok-each_form.ensures
+    ∙ forms-told c.in_ok-count.count (view c.byte.new.self)
+    ∙ ap (λ r. on_ok r (many form_text)) c.in_ok-count.ensures

@@ -6,6 +6,6 @@ use Rattle.records.proofs.reader.Reader.names.Goals as goal
 
 pub returns : goal.returns
 returns c =
-    ap (labelled (listed c.in-ok-count.count (view c.byte.new.self).left)) c.in-ok-each-name.ensures
-    ∙ names-told c.in-ok-count.count (view c.byte.new.self)
-    ∙ ap (λ r. on_ok r (many name_text)) c.in-ok-count.ensures
+    ap (labelled (listed c.in_ok-count.count (view c.byte.new.self).left)) c.in_ok-each_name.ensures
+    ∙ names-told c.in_ok-count.count (view c.byte.new.self)
+    ∙ ap (λ r. on_ok r (many name_text)) c.in_ok-count.ensures

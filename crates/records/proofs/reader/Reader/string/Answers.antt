@@ -4,5 +4,5 @@ use Rattle.records.proofs.reader.Reader.string.Goals as goal
 
 pub returns-else-tail-n : goal.returns-else-tail-n
 returns-else-tail-n c =
-    string-goes c.args.self.now.rest.now c.args.self.now.at c.from-n.result c.split-at.result.0.now c.split-at.result.1.now
-    (search rules) c.from-n.ensures c.if-tail-n.false c.split-at.ensures.front c.split-at.ensures.back
+    string-goes c.args.self.now.rest.now c.args.self.now.at c.from-n.result c.split_at.result.0.now c.split_at.result.1.now
+    (search rules) c.from-n.ensures c.if-tail-n.false c.split_at.ensures.front c.split_at.ensures.back
