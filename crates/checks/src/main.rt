@@ -1,4 +1,7 @@
 // Compares the library with second computations of its answers, on many inputs.
+
+#![tactic(auto)]
+
 mod answers;
 mod compared;
 mod damaged;

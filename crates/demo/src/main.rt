@@ -1,4 +1,7 @@
 // Opens the graph file on standard input, and prints its counts and rule rows, or why it is refused.
+
+#![tactic(auto)]
+
 mod lines;
 mod opened;
 

@@ -1,17 +1,17 @@
 -- A feature's number in the index tells its place in its package.
-use Rattle.std.proofs.Common.{◌≡◌, ℕ, zero, suc, ◌+◌, ◌-◌, ◌<◌, ◌≤◌, Bool, true, false, cond, ◌&&◌, eqb, ◌⊎◌, List, [], ◌∷◌, ◌++◌, length, get_or, Some, None, Option, sym, refl, ap, ◌∙◌, subst, inl, inr, ⊎_elim, arith}
+use Rattle.std.proofs.Common.{◌≡◌, ℕ, zero, suc, ◌+◌, ◌-◌, ◌<◌, ◌≤◌, true, false, ◌&&◌, eqb, List, [], ◌∷◌, ◌++◌, length, get_or, Some, None, Option, sym, refl, ap, ◌∙◌, ⊎_elim, arith}
 use Rattle.std.proofs.ByRecursion.{All-get_or}
 use Rattle.std.proofs.lemmas.Slice.Eq.{bytes_eq-Decides}
 use Rattle.std.proofs.lemmas.List.{length-append, get_or_append_left, get_or-append-add}
-use Rattle.std.proofs.lemmas.Bool.{cond-true, cond-false, eqb-true, eq-eqb, and_parts, and_from, cases_Bool, cases_lt, true≢false}
+use Rattle.std.proofs.lemmas.Bool.{cond-true, cond-false, eqb-true, eq-eqb, and_parts, cases_Bool, cases_lt}
 use Rattle.std.specs.List.{AllByRecursion as All}
 use Rattle.std.specs.Str.{bytes_eq}
-use Rattle.records.specs.Graphs.{Feature, Part, dependency, feature, Package, Graph}
+use Rattle.records.specs.Graphs.{Feature, Part, dependency, feature, Graph}
 use Rattle.graph.specs.declared.index.Entry.{Entry}
 use Rattle.graph.specs.Keys.{Key, is_key, key_of, blank, entry_at, keys_of, Finds}
 use Rattle.graph.specs.Law.{features_in, dependency_count, Differ, LawfulPackage}
 use Rattle.graph.specs.Gathered.{keys_in, keys_from}
-use Rattle.graph.specs.Places.{feat, parts_of, features_of, features_before, number}
+use Rattle.graph.specs.Places.{feat, features_of, features_before, number}
 use Rattle.graph.specs.Rules.{later, place_of, on_some}
 use Rattle.graph.proofs.Links.{keys_length, keys-at}
 

@@ -1,16 +1,15 @@
 -- Records that are found lie in the bytes.
-use Rattle.std.proofs.Common.{◌≡◌, ℕ, suc, ◌+◌, ◌-◌, ◌*◌, ◌<◌, ◌≤◌, Bool, true, false, cond, ltb, leb, List, [], ◌∷◌, ◌++◌, length, take, drop, Some, None, Ok, Err, Option, Result, sym, refl, ap, ◌∙◌, subst, append_assoc, arith}
+use Rattle.std.proofs.Common.{◌≡◌, ℕ, ◌+◌, ◌-◌, ◌*◌, ◌<◌, ◌≤◌, Bool, true, false, cond, ltb, leb, List, [], ◌∷◌, ◌++◌, length, take, drop, Some, None, Ok, Err, Option, Result, sym, refl, ap, ◌∙◌, append_assoc, arith}
 use Rattle.std.proofs.lemmas.List.{length-append, take_at, drop-drop, take-append-drop}
 use Rattle.std.proofs.lemmas.Bool.{leb-false}
 use Rattle.text.specs.Views.{mapped}
 use Rattle.records.specs.declared.faults.RecordFault.{RecordFault}
 use Rattle.records.specs.declared.frames.Frame as code
-use Rattle.records.specs.declared.faults.RecordFault.TheVariants.{Cut, Many, Twice}
-use Rattle.records.specs.declared.faults.InField.{InField}
+use Rattle.records.specs.declared.faults.RecordFault.TheVariants.{Cut, Many}
 use Rattle.records.specs.declared.frames.Kind.{Kind}
 use Rattle.records.specs.declared.frames.Kind.TheVariants as kind
 use Rattle.records.specs.Frames.{Frame, frame, inside, of_length, frame_of}
-use Rattle.records.specs.Fields.{View, on_ok, and_then, give, string_of, in_field, in_record, name_of, name_field, header_field, closed_field}
+use Rattle.records.specs.Fields.{View, and_then, give, in_field, in_record, name_of, name_field, header_field, closed_field}
 use Rattle.records.specs.Bodies.{Head, package_field, dependency_field, values_field}
 use Rattle.records.specs.Graphs.{Dependency, Feature, dependency, feature}
 use Rattle.records.specs.Encoding.{string}
@@ -22,8 +21,8 @@ use Rattle.text.specs.Readers.{read_name}
 use Rattle.records.proofs.Numbers.{not-both, in-ok}
 use Rattle.graph.specs.declared.contents.Stand as stand
 use Rattle.graph.specs.declared.faults.InRecord.{InRecord}
-use Rattle.graph.specs.Keys.{Key, has_key, most_features}
-use Rattle.graph.specs.Reading.{Stand, Content, header, heads, part, end, kind_here, as_content, fresh, feature_field, content_as, content_of}
+use Rattle.graph.specs.Keys.{Key, most_features}
+use Rattle.graph.specs.Reading.{Stand, header, heads, part, end, kind_here, as_content, fresh, feature_field, content_as, content_of}
 use Rattle.graph.specs.Views.{located}
 use Rattle.graph.proofs.Scans.{frame-shorter}
 

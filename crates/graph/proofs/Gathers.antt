@@ -1,11 +1,11 @@
 -- The loop of the first reading: what was gathered and what is left make the whole.
-use Rattle.std.proofs.Common.{◌≡◌, ℕ, ◌+◌, ◌-◌, ◌<◌, ◌≤◌, Bool, true, false, cond, List, [], ◌∷◌, ◌++◌, length, take, drop, Ok, Err, Result, sym, refl, ap, ◌∙◌, subst, append_assoc, append-nil, arith}
+use Rattle.std.proofs.Common.{◌≡◌, ℕ, ◌+◌, ◌-◌, ◌≤◌, true, false, List, [], ◌∷◌, ◌++◌, length, take, drop, Ok, Err, Result, sym, refl, ap, ◌∙◌, append_assoc, append-nil, arith}
 use Rattle.std.proofs.lemmas.List.{drop-drop, length-drop}
 use Rattle.std.proofs.lemmas.Bool.{true≢false, false≢true}
 use Rattle.records.specs.declared.faults.RecordFault.{RecordFault}
 use Rattle.records.specs.Frames.{Frame, frame, frame_of}
 use Rattle.records.specs.Bodies.{feature_view}
-use Rattle.records.specs.Graphs.{Part, dependency, feature, Package, Graph}
+use Rattle.records.specs.Graphs.{dependency, feature}
 use Rattle.records.proofs.Numbers.{not-both, in-ok}
 use Rattle.graph.specs.declared.faults.InRecord.{InRecord}
 use Rattle.graph.specs.declared.faults.FileFault.{FileFault}
@@ -14,7 +14,7 @@ use Rattle.graph.specs.declared.contents.Content as code
 use Rattle.graph.specs.declared.contents.Content.TheVariants as variant
 use Rattle.graph.specs.declared.contents.Found as found
 use Rattle.graph.specs.Keys.{Key}
-use Rattle.graph.specs.Reading.{Content, header, heads, part, end, Stand, Found, Rest, Reading, content_of, with_content, with_frame, record_at, is_end, packages_after, dependencies_after, after, carried, on_found, one_record, scan}
+use Rattle.graph.specs.Reading.{Content, header, heads, part, end, Stand, Found, Reading, content_of, with_content, with_frame, record_at, is_end, packages_after, dependencies_after, after, carried, on_found, scan}
 use Rattle.graph.specs.Law.{dependencies_in, dependency_count}
 use Rattle.graph.specs.Gathered.{Gathered, gathered, keys_in, keys_from}
 use Rattle.graph.specs.Views.{content_view, found_view, Fits}

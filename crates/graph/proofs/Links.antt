@@ -1,11 +1,11 @@
 -- Searches in the lists of the feature index, and one feature more in them.
-use Rattle.std.proofs.Common.{◌≡◌, ℕ, zero, suc, ◌+◌, ◌-◌, ◌*◌, ◌%◌, ◌<◌, ◌≤◌, Bool, true, false, cond, ◌&&◌, ◌||◌, eqb, ◌⊎◌, List, [], ◌∷◌, ◌++◌, map, length, get_or, take, drop, set, replicate, is_some, Some, None, Option, sym, refl, ap, ◌∙◌, subst, inl, inr, ⊎_elim, arith}
+use Rattle.std.proofs.Common.{◌≡◌, ℕ, zero, suc, ◌+◌, ◌-◌, ◌<◌, ◌≤◌, Bool, true, false, ◌&&◌, eqb, ◌⊎◌, List, [], ◌∷◌, ◌++◌, map, length, get_or, take, drop, set, replicate, is_some, Some, None, Option, sym, refl, ap, ◌∙◌, subst, inl, inr, ⊎_elim, arith}
 use Rattle.std.proofs.lemmas.Slice.Eq.{bytes_eq-Decides}
 use Rattle.std.proofs.lemmas.List.{get_or-set_same, get_or-set_other, length-set, take_more_set, map_push, length-map, length-take-le, get_or-map, get_or-take}
 use Rattle.std.proofs.lemmas.Bool.{eqb-true, eq-eqb, and_parts, cases_Bool, cases_eq, cases_lt, or_from, or_left, or_right}
 use Rattle.std.specs.Str.{bytes_eq}
 use Rattle.graph.specs.declared.index.Entry.{Entry}
-use Rattle.graph.specs.Keys.{Key, is_key, has_key, hash_from, bucket_of, key_of, blank, entry_at, keys_of, bucket_at, most_features, Linked, Finds}
+use Rattle.graph.specs.Keys.{Key, is_key, has_key, bucket_of, key_of, blank, entry_at, keys_of, bucket_at, most_features, Linked, Finds}
 
 pub zeros : (n h : ℕ) → ◌≡◌ {A = ℕ} (get_or (replicate n 0) h 0) 0
 zeros zero h = refl

@@ -1,9 +1,9 @@
 -- Names of lawful records are short, and checks of single records make those of all.
-use Rattle.std.proofs.Common.{◌≡◌, ℕ, ◌+◌, ◌<◌, ◌≤◌, List, [], ◌∷◌, length, get_or, drop, Some, None, Ok, Err, Option, Result, sym, refl, ap, ◌∙◌, subst, arith}
+use Rattle.std.proofs.Common.{◌≡◌, ℕ, ◌+◌, ◌<◌, ◌≤◌, List, [], ◌∷◌, length, get_or, drop, Some, None, Ok, Err, Option, Result, sym, refl, ◌∙◌}
 use Rattle.std.proofs.lemmas.List.{at_drop_more, at_drop_all}
 use Rattle.text.specs.Names.{Name}
 use Rattle.records.specs.Graphs.{Part, dependency, feature}
-use Rattle.records.proofs.Numbers.{not-both, in-ok}
+use Rattle.records.proofs.Numbers.{not-both}
 use Rattle.graph.specs.declared.faults.InRecord.{InRecord}
 use Rattle.graph.specs.Checks.{NameShort, one, answer_of}
 use Rattle.graph.specs.Directory.{no_placed}

@@ -1,5 +1,5 @@
 -- Opening, step by step.
-use Rattle.std.proofs.Common.{◌≡◌, ℕ, suc, ◌+◌, ◌*◌, ◌≤◌, List, [], ◌∷◌, ◌++◌, length, take, drop, set, Ok, Err, Result, sym, refl, ap, ◌∙◌, subst, arith}
+use Rattle.std.proofs.Common.{◌≡◌, ℕ, ◌+◌, ◌*◌, ◌≤◌, List, [], ◌∷◌, ◌++◌, length, take, drop, set, Ok, Err, Result, sym, refl, ap, ◌∙◌, subst, arith}
 use Rattle.std.proofs.lemmas.List.{length-append}
 use Rattle.std.specs.List.{flat_map}
 use Rattle.records.specs.Graphs.{Graph}
@@ -13,7 +13,7 @@ use Rattle.graph.specs.declared.tables.Directory.{Directory}
 use Rattle.graph.specs.Directory.{Tells, ReadAs}
 use Rattle.graph.specs.Laying.{its, Told, EndsKnown, rows_below}
 use Rattle.graph.specs.Law.{Says, dependency_count, feature_count}
-use Rattle.graph.specs.Opening.{most_rows, over, opened_as, on_checked, on_graph, laid_for, open_graph, leaving, with_words}
+use Rattle.graph.specs.Opening.{most_rows, over, on_checked, on_graph, laid_for, open_graph, leaving, with_words}
 use Rattle.graph.specs.OpeningLaw.{OpeningLaw, RulesLaw}
 use Rattle.graph.specs.Parts.{graph_or, graph_of}
 use Rattle.graph.specs.Reading.{first_reading}

@@ -1,14 +1,13 @@
 -- A record that stands at a place is read again as what it says.
-use Rattle.std.proofs.Common.{◌≡◌, ℕ, ◌+◌, ◌<◌, ◌≤◌, List, [], ◌∷◌, ◌++◌, length, drop, Ok, Err, Result, sym, refl, ap, ◌∙◌, subst, ⊎_elim, append-nil, arith}
+use Rattle.std.proofs.Common.{◌≡◌, ℕ, ◌+◌, ◌<◌, ◌≤◌, List, ◌++◌, length, drop, Ok, sym, ap, ◌∙◌, ⊎_elim, append-nil, arith}
 use Rattle.std.proofs.lemmas.List.{drop_all, length-append}
 use Rattle.std.proofs.lemmas.Bool.{cases_lt}
-use Rattle.records.specs.declared.faults.RecordFault.{RecordFault}
 use Rattle.records.specs.Fields.{View, on_ok, and_then, give}
-use Rattle.records.specs.Bodies.{name_text, values_field}
-use Rattle.records.specs.Graphs.{Dependency, Feature, Part, dependency, feature}
+use Rattle.records.specs.Bodies.{values_field}
+use Rattle.records.specs.Graphs.{Feature, Part, dependency, feature}
 use Rattle.records.specs.Encoding.{string, list_bytes, value, dependency_body, feature_body, part_bytes, LawfulFeature}
 use Rattle.records.proofs.Framing.{frame-reads}
-use Rattle.records.proofs.Codes.{at, Coded, Closed}
+use Rattle.records.proofs.Codes.{at}
 use Rattle.records.proofs.CodedFields.{name-coded, values-closed}
 use Rattle.graph.specs.Reading.{part}
 use Rattle.graph.specs.Parts.{feature_again, or_end, part_as, part_in}

@@ -1,5 +1,5 @@
 -- The worked example, over the definitions.
-use Rattle.std.proofs.Common.{◌≡◌, ℕ, ◌≤◌, cond, ltb, List, length, Ok, Err, refl, ap, ◌∙◌}
+use Rattle.std.proofs.Common.{◌≡◌, ℕ, ◌≤◌, ltb, List, length, Ok, Err, refl, ap, ◌∙◌}
 use Rattle.std.proofs.lemmas.Bool.{cond-false, le-ltb}
 use Rattle.records.specs.Encoding.{encode}
 use Rattle.graph.specs.Examples.{example, misnamed, example_opened, example_words, misnamed_fault, Examples}

@@ -1,6 +1,6 @@
 -- The checks of the second reading, of a record that is read again.
-use Rattle.std.specs.Prelude.{◌≡◌, ℕ, ◌≤◌, length, Some, None, Ok, Err, Option, Result}
-use Rattle.records.specs.Graphs.{Part, dependency, feature, Graph}
+use Rattle.std.specs.Prelude.{ℕ, ◌≤◌, length, Some, None, Ok, Err, Option, Result}
+use Rattle.records.specs.Graphs.{dependency, feature, Graph}
 use Rattle.records.specs.declared.faults.RecordFault.TheVariants.{Unknown}
 use Rattle.graph.specs.declared.faults.InRecord.{InRecord}
 use Rattle.graph.specs.Reading.{Content, header, heads, part, end}

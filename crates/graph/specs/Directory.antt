@@ -1,8 +1,8 @@
 -- What a directory tells of the graph of its file.
-use Rattle.std.specs.Prelude.{◌≡◌, ℕ, ◌+◌, ◌<◌, ◌≤◌, Bool, false, List, ◌++◌, length, get_or, drop, Ok, Err, Result, slice_index, slice_index_or}
+use Rattle.std.specs.Prelude.{◌≡◌, ℕ, ◌+◌, ◌<◌, ◌≤◌, false, List, ◌++◌, length, get_or, drop, Ok, Err, Result, slice_index, slice_index_or}
 use Rattle.records.specs.declared.bodies.Edge.TheVariants.{Normal}
 use Rattle.records.specs.Graphs.{Dependency, Feature, Part, dependency, feature, Graph}
-use Rattle.records.specs.Encoding.{part_bytes, encode, LawfulDependency, LawfulFeature}
+use Rattle.records.specs.Encoding.{part_bytes, encode}
 use Rattle.graph.specs.declared.contents.Counts.{Counts}
 use Rattle.graph.specs.declared.faults.FileFault.{FileFault}
 use Rattle.graph.specs.declared.index.Index.{Index}

@@ -1,9 +1,9 @@
 -- The worked example: a graph of three packages, and the same with a feature that is not there.
 use Rattle.std.specs.Prelude.{◌≡◌, ℕ, ◌+◌, ◌≤◌, true, false, List, [], ◌∷◌, length, Ok, Err, codes}
-use Rattle.text.specs.Forms.{Form, plain, switch, weak}
+use Rattle.text.specs.Forms.{plain, switch, weak}
 use Rattle.records.specs.declared.bodies.Edge.TheVariants.{Normal, Build}
 use Rattle.records.specs.declared.faults.RecordFault.TheVariants.{Unknown}
-use Rattle.records.specs.Graphs.{Dependency, Feature, dependency, feature, Package, Graph}
+use Rattle.records.specs.Graphs.{dependency, feature, Package, Graph}
 use Rattle.records.specs.Encoding.{encode}
 use Rattle.graph.specs.declared.faults.FileFault.{FileFault}
 use Rattle.graph.specs.declared.faults.FileFault.TheVariants.{Record}

@@ -1,11 +1,11 @@
 -- What the first reading gathers: counts, and the features by package and name.
 use Rattle.std.specs.Prelude.{◌≡◌, ℕ, ◌+◌, ◌-◌, cond, List, [], ◌∷◌, ◌++◌, length, Ok, Err, Result, nat_lt}
-use Rattle.records.specs.Graphs.{Part, dependency, feature, Package, Graph}
+use Rattle.records.specs.Graphs.{Part, dependency, feature, Graph}
 use Rattle.graph.specs.declared.contents.Counts.{Counts}
 use Rattle.graph.specs.declared.faults.FileFault.{FileFault}
 use Rattle.graph.specs.declared.faults.FileFault.TheVariants.{Size}
 use Rattle.graph.specs.Keys.{Key}
-use Rattle.graph.specs.Reading.{Stand, begin, Rest, Reading, scan, most_bytes}
+use Rattle.graph.specs.Reading.{Stand, begin, Reading, scan, most_bytes}
 use Rattle.graph.specs.Law.{dependencies_in, dependency_count}
 
 -- the features of a package, and those of packages numbered from p on

@@ -3,7 +3,7 @@ use Rattle.std.specs.Prelude.{ℕ, zero, suc, ◌<◌, Bool, true, false, cond, 
 use Rattle.std.specs.List.{flat_map}
 use Rattle.std.specs.Str.{bytes_eq}
 use Rattle.text.specs.Forms.{Form, plain, switch, strong, weak}
-use Rattle.records.specs.Graphs.{Dependency, Feature, Graph}
+use Rattle.records.specs.Graphs.{Dependency, Graph}
 use Rattle.graph.specs.declared.rows.Row.{Row}
 use Rattle.graph.specs.declared.tables.Directory.{Directory}
 use Rattle.graph.specs.Directory.{Tells, no_dependency as none_at}

@@ -1,5 +1,5 @@
 -- Opening accepts exactly the lawful graphs, and lays down exactly their rules.
-use Rattle.std.specs.Prelude.{◌≡◌, ℕ, ◌+◌, ◌*◌, ◌<◌, ◌≤◌, Bool, true, false, ◌⊎◌, List, [], ◌∷◌, length, Some, None, Ok, Err, codes, Result, slice_index_or}
+use Rattle.std.specs.Prelude.{◌≡◌, ℕ, ◌+◌, ◌*◌, ◌<◌, ◌≤◌, true, false, ◌⊎◌, List, [], ◌∷◌, length, Some, None, Ok, codes, Result, slice_index_or}
 use Rattle.std.specs.List.{AllByRecursion as All}
 use Rattle.text.specs.Forms.{Form, plain, switch, strong, weak}
 use Rattle.records.specs.Graphs.{Dependency, Feature, Graph}
@@ -8,7 +8,7 @@ use Rattle.graph.specs.declared.faults.FileFault.{FileFault}
 use Rattle.graph.specs.declared.rows.Opened.{Opened}
 use Rattle.graph.specs.Law.{Says}
 use Rattle.graph.specs.Directory.{no_dependency, no_feature}
-use Rattle.graph.specs.Places.{Item, unit, dep, feat, dependencies_of, features_of}
+use Rattle.graph.specs.Places.{unit, dep, feat, dependencies_of, features_of}
 use Rattle.graph.specs.Rules.{Rule, lane_of, no_dependency as no_lane, rules, rows, graph_words}
 use Rattle.graph.specs.Opening.{most_rows, over, opened_as}
 

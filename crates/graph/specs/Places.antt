@@ -1,6 +1,6 @@
 -- Items of a graph by place, and their numbers.
 use Rattle.std.specs.Prelude.{ℕ, zero, suc, ◌+◌, Bool, false, List, [], ◌∷◌, length}
-use Rattle.records.specs.Graphs.{Dependency, Feature, Part, Package, Graph}
+use Rattle.records.specs.Graphs.{Dependency, Feature, Part, Graph}
 use Rattle.graph.specs.Law.{dependencies_in, features_in, dependency_count, feature_count}
 
 -- the unit of package p, its dependency k, its feature k

@@ -8,7 +8,7 @@ use Rattle.records.specs.declared.frames.Kind.TheVariants as kind
 use Rattle.records.specs.Frames.{Frame, frame_of}
 use Rattle.records.specs.Fields.{View, Field, and_then, give, name_field, header_field, closed_field}
 use Rattle.records.specs.Bodies.{Head, package_field, dependency_field, values_field}
-use Rattle.records.specs.Graphs.{Dependency, Feature, Part, dependency, feature, Package, Graph}
+use Rattle.records.specs.Graphs.{Feature, Part, dependency, feature, Graph}
 use Rattle.graph.specs.declared.faults.InRecord.{InRecord}
 use Rattle.graph.specs.declared.faults.FileFault.{FileFault}
 use Rattle.graph.specs.declared.faults.FileFault.TheVariants.{Record, Size}

@@ -2,10 +2,8 @@
 use Rattle.std.specs.Prelude.{ℕ}
 use Rattle.text.specs.declared.faults.StringFault.{StringFault}
 use Rattle.text.specs.declared.faults.StringFault.TheVariants.{NoName, NoForm}
-use Rattle.records.specs.declared.faults.InField.{InField}
 use Rattle.records.specs.declared.faults.RecordFault.{RecordFault}
 use Rattle.records.specs.declared.faults.RecordFault.TheVariants.{Cut, Stray, Many, Ragged, Mark, Text, Twice, Unknown}
-use Rattle.graph.specs.declared.faults.InRecord.{InRecord}
 use Rattle.graph.specs.declared.faults.FileFault.{FileFault}
 use Rattle.graph.specs.declared.faults.FileFault.TheVariants.{Record, Size, Rows, Memory}
 use Rattle.graph.specs.declared.refusals.Refusal.{Refusal}

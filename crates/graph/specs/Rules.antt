@@ -1,9 +1,9 @@
 -- The rules of a graph, over places, and its rule rows.
-use Rattle.std.specs.Prelude.{ℕ, zero, suc, ◌+◌, ◌*◌, Bool, true, false, cond, List, [], ◌∷◌, ◌++◌, map, length, Some, None, codes, Option}
+use Rattle.std.specs.Prelude.{ℕ, suc, ◌+◌, ◌*◌, Bool, true, false, cond, List, [], ◌∷◌, ◌++◌, map, length, Some, None, codes, Option}
 use Rattle.std.specs.List.{flat_map}
 use Rattle.std.specs.Str.{bytes_eq}
 use Rattle.text.specs.Forms.{Form, plain, switch, strong, weak}
-use Rattle.records.specs.Graphs.{Dependency, Feature, Part, Package, Graph}
+use Rattle.records.specs.Graphs.{Dependency, Feature, Package, Graph}
 use Rattle.records.specs.Encoding.{bit, edge_number}
 use Rattle.graph.specs.declared.rows.Row.{Row}
 use Rattle.graph.specs.Law.{dependencies_in, features_in, dependency_count, feature_count}

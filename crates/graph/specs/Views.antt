@@ -8,7 +8,6 @@ use Rattle.graph.specs.declared.contents.Content as code
 use Rattle.graph.specs.declared.contents.Content.TheVariants as variant
 use Rattle.graph.specs.declared.contents.Found as found
 use Rattle.graph.specs.declared.contents.Stand as stand
-use Rattle.graph.specs.declared.index.Entry.{Entry}
 use Rattle.graph.specs.declared.index.Index.{Index}
 use Rattle.graph.specs.declared.faults.InRecord.{InRecord}
 use Rattle.graph.specs.Keys.{Key, keys_of, most_features, Linked}

@@ -1,6 +1,7 @@
 // Graph files: opening one, and its rule rows.
 
 #![tactic(auto)]
+
 mod contents;
 mod directory;
 pub mod examples;

@@ -1,4 +1,4 @@
-use Rattle.std.proofs.Common.{◌≡◌, ◌≤◌, length, replicate, refl, ap, ◌∙◌, arith}
+use Rattle.std.proofs.Common.{replicate, ap, ◌∙◌, arith}
 use Rattle.graph.specs.Opening.{leaving}
 use Rattle.graph.proofs.Worked.{examples}
 use Rattle.graph.proofs.examples.open_example.Goals as goal

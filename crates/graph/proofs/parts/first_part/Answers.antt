@@ -1,5 +1,4 @@
-use Rattle.std.proofs.Common.{◌≡◌, sym, ap, ◌∙◌, arith}
-use Rattle.text.specs.Views.{mapped}
+use Rattle.std.proofs.Common.{sym, arith}
 use Rattle.records.specs.Frames.{frame}
 use Rattle.graph.proofs.Scans.{frame-shorter}
 use Rattle.graph.proofs.parts.first_part.Goals as goal

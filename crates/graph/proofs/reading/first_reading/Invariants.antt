@@ -1,4 +1,4 @@
-use Rattle.std.proofs.Common.{◌≡◌, ◌+◌, ◌-◌, ◌≤◌, length, drop}
+use Rattle.std.proofs.Common.{◌≡◌, ◌-◌, ◌≤◌, length, drop}
 use Rattle.graph.specs.Reading.{begin, scan}
 use Rattle.graph.specs.Gathered.{gathered}
 use Rattle.graph.specs.Views.{stand_view, keys, Whole}

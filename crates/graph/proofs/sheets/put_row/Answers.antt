@@ -1,4 +1,4 @@
-use Rattle.std.proofs.Common.{◌≡◌, [], ◌∷◌, ap, ◌∙◌}
+use Rattle.std.proofs.Common.{[], ◌∷◌, ◌∙◌}
 use Rattle.graph.specs.Sheets.{put}
 use Rattle.graph.proofs.SheetRows.{put_five}
 use Rattle.graph.proofs.sheets.put_row.Goals as goal

@@ -1,4 +1,4 @@
-use Rattle.std.proofs.Common.{◌≡◌, ◌≤◌, leb, length, sym, ap, ◌∙◌, arith}
+use Rattle.std.proofs.Common.{◌≤◌, leb, length, sym, ap, arith}
 use Rattle.graph.specs.Keys.{most_features}
 use Rattle.graph.proofs.Links.{keys_length}
 use Rattle.graph.proofs.index.Index.is_full.Goals as goal

@@ -1,4 +1,4 @@
-use Rattle.std.proofs.Common.{◌≡◌, ◌+◌, length, get_or, sym, ap, ◌∙◌}
+use Rattle.std.proofs.Common.{◌+◌, get_or, sym, ap, ◌∙◌}
 use Rattle.graph.specs.Checks.{unknown_end_content}
 use Rattle.graph.specs.Directory.{no_placed}
 use Rattle.graph.specs.Laying.{its}

@@ -1,8 +1,7 @@
-use Rattle.std.proofs.Common.{◌≡◌, ◌+◌, length, get_or, sym, ap, ◌∙◌}
+use Rattle.std.proofs.Common.{◌+◌, get_or, sym, ap, ◌∙◌}
 use Rattle.graph.specs.Checks.{unknown_in_content}
 use Rattle.graph.specs.Directory.{no_placed}
 use Rattle.graph.specs.Laying.{its}
-use Rattle.graph.specs.Reading.{part}
 use Rattle.graph.specs.Second.{placed, unknown_in}
 use Rattle.graph.proofs.Namings.{one-answers}
 use Rattle.graph.proofs.Resolving.{placed-number}

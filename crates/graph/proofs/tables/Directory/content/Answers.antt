@@ -1,11 +1,7 @@
-use Rattle.std.proofs.Common.{◌≡◌, [], ◌∷◌, length, get_or, drop, sym, ap, ◌∙◌, subst}
-use Rattle.records.specs.Graphs.{Part, dependency, feature}
+use Rattle.std.proofs.Common.{get_or, sym, ap, ◌∙◌, subst}
 use Rattle.graph.specs.Checks.{NameShort}
-use Rattle.graph.specs.Directory.{Stands, no_placed, no_part}
+use Rattle.graph.specs.Directory.{Stands, no_placed}
 use Rattle.graph.specs.Laying.{its}
-use Rattle.graph.specs.Law.{LawfulPart}
-use Rattle.graph.specs.Parts.{part_in}
-use Rattle.graph.specs.Reading.{part}
 use Rattle.graph.specs.Second.{placed}
 use Rattle.graph.proofs.Namings.{lawful-short}
 use Rattle.graph.proofs.PartsAgain.{stands-reads}

@@ -1,8 +1,8 @@
-use Rattle.std.proofs.Common.{◌≡◌, ◌+◌, ◌<◌, ◌≤◌, length, get_or, drop, sym, ap, ◌∙◌, subst, arith}
+use Rattle.std.proofs.Common.{◌+◌, get_or, sym, ap, ◌∙◌, subst, arith}
 use Rattle.records.specs.Graphs.{dependency}
 use Rattle.graph.specs.Directory.{Stands, no_dependency}
 use Rattle.graph.specs.Laying.{its}
-use Rattle.graph.specs.Places.{dependencies_of, dependencies_before}
+use Rattle.graph.specs.Places.{dependencies_of}
 use Rattle.graph.specs.Parts.{as_dependency}
 use Rattle.graph.proofs.Befores.{dependencies-within}
 use Rattle.graph.proofs.PartsAgain.{stands-reads, stands-within}

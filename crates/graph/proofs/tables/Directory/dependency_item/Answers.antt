@@ -1,4 +1,4 @@
-use Rattle.std.proofs.Common.{◌≡◌, ap, arith}
+use Rattle.std.proofs.Common.{ap, arith}
 use Rattle.graph.specs.Laying.{its}
 use Rattle.graph.proofs.Befores.{dependencies-within}
 use Rattle.graph.proofs.tables.Directory.dependency_item.Goals as goal

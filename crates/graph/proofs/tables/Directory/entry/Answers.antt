@@ -1,4 +1,4 @@
-use Rattle.std.proofs.Common.{◌≡◌, sym, ap, ◌∙◌, arith}
+use Rattle.std.proofs.Common.{ap, arith}
 use Rattle.graph.specs.Laying.{its}
 use Rattle.graph.proofs.PartsAgain.{stands-within}
 use Rattle.graph.proofs.Resolving.{placed-length, placed-owner}

@@ -1,8 +1,8 @@
-use Rattle.std.proofs.Common.{◌≡◌, ◌+◌, ◌<◌, ◌≤◌, length, get_or, drop, sym, ap, ◌∙◌, subst, arith}
+use Rattle.std.proofs.Common.{◌+◌, get_or, sym, ap, ◌∙◌, subst, arith}
 use Rattle.records.specs.Graphs.{feature}
 use Rattle.graph.specs.Directory.{Stands, no_feature}
 use Rattle.graph.specs.Laying.{its}
-use Rattle.graph.specs.Places.{features_of, features_before}
+use Rattle.graph.specs.Places.{features_of}
 use Rattle.graph.specs.Parts.{as_feature}
 use Rattle.graph.proofs.Befores.{features-within}
 use Rattle.graph.proofs.PartsAgain.{stands-reads, stands-within}

@@ -1,4 +1,4 @@
-use Rattle.std.proofs.Common.{◌≡◌, arith}
+use Rattle.std.proofs.Common.{arith}
 use Rattle.graph.specs.Laying.{its}
 use Rattle.graph.proofs.Befores.{features-next}
 use Rattle.graph.proofs.tables.Directory.feature_count.Goals as goal

@@ -1,4 +1,4 @@
-use Rattle.std.proofs.Common.{◌≡◌, ◌+◌, ◌≤◌, length, Some, None, sym, ap, ◌∙◌, arith}
+use Rattle.std.proofs.Common.{◌≡◌, ◌+◌, ◌≤◌, length, Some, None, ap, ◌∙◌, arith}
 use Rattle.graph.specs.Law.{dependency_count}
 use Rattle.graph.specs.Laying.{its}
 use Rattle.graph.proofs.FeaturePlaces.{finds-item}

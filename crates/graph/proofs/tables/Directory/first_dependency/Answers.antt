@@ -1,4 +1,4 @@
-use Rattle.std.proofs.Common.{◌≡◌, ◌+◌, ◌<◌, ◌≤◌, length, sym, ap, ◌∙◌, arith}
+use Rattle.std.proofs.Common.{◌<◌, ◌≤◌, length, sym, ap, ◌∙◌, arith}
 use Rattle.graph.specs.Laying.{its}
 use Rattle.graph.proofs.Befores.{dependencies-all, dependencies-within}
 use Rattle.graph.proofs.tables.Directory.first_dependency.Goals as goal

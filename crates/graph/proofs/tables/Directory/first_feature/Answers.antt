@@ -1,4 +1,4 @@
-use Rattle.std.proofs.Common.{◌≡◌, ◌+◌, ◌<◌, ◌≤◌, length, sym, ap, ◌∙◌, arith}
+use Rattle.std.proofs.Common.{◌<◌, ◌≤◌, length, sym, ap, ◌∙◌, arith}
 use Rattle.graph.specs.Laying.{its}
 use Rattle.graph.proofs.Befores.{features-all, features-within}
 use Rattle.graph.proofs.tables.Directory.first_feature.Goals as goal

@@ -1,4 +1,4 @@
-use Rattle.std.proofs.Common.{◌≡◌, suc, ◌+◌, ◌<◌, ◌≤◌, length, sym, ap, ◌∙◌, arith}
+use Rattle.std.proofs.Common.{◌≡◌, suc, ◌+◌, length, sym, ap, ◌∙◌, arith}
 use Rattle.graph.specs.Laying.{its, package_rows, rows_below}
 use Rattle.graph.specs.Sheets.{sheet, lays}
 use Rattle.graph.proofs.SheetRows.{lays-append}

@@ -1,9 +1,9 @@
-use Rattle.std.proofs.Common.{◌≡◌, ◌<◌, ◌≤◌, length, arith}
+use Rattle.std.proofs.Common.{◌<◌, ◌≤◌, length, arith}
 use Rattle.records.specs.Bodies.{bytes_in}
 use Rattle.graph.specs.Directory.{no_dependency}
 use Rattle.graph.specs.Laying.{its, one_named}
 use Rattle.graph.specs.Places.{dep, dependencies_of, number}
-use Rattle.graph.specs.Sheets.{Sheet, sheet}
+use Rattle.graph.specs.Sheets.{sheet}
 use Rattle.graph.proofs.SheetRows.{each_more, each_all}
 use Rattle.graph.proofs.tables.Directory.named_rows.Goals as goal
 

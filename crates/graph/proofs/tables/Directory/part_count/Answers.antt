@@ -1,4 +1,4 @@
-use Rattle.std.proofs.Common.{◌≡◌, ap, arith}
+use Rattle.std.proofs.Common.{ap, arith}
 use Rattle.graph.specs.Laying.{its}
 use Rattle.graph.proofs.Resolving.{placed-length}
 use Rattle.graph.proofs.tables.Directory.part_count.Goals as goal

@@ -1,4 +1,4 @@
-use Rattle.std.proofs.Common.{◌≡◌, min, length, ap, ◌∙◌}
+use Rattle.std.proofs.Common.{min, length, ap, ◌∙◌}
 use Rattle.graph.specs.Laying.{its}
 use Rattle.graph.proofs.RowsLaid.{rows-laid}
 use Rattle.graph.proofs.SheetsLaid.{count-laid}

@@ -1,6 +1,4 @@
-use Rattle.std.proofs.Common.{◌≡◌, ℕ, ◌<◌, ◌≤◌, length, arith}
-use Rattle.std.specs.List.{flat_map}
-use Rattle.records.specs.Graphs.{Feature}
+use Rattle.std.proofs.Common.{◌<◌, ◌≤◌, length, arith}
 use Rattle.graph.specs.Directory.{no_dependency}
 use Rattle.graph.specs.Laying.{its, dependency_rows}
 use Rattle.graph.specs.Places.{dep, dependencies_of, number}

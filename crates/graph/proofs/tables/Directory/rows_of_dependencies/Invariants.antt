@@ -1,6 +1,4 @@
-use Rattle.std.proofs.Common.{◌≡◌, ℕ, ◌≤◌, drop}
-use Rattle.std.specs.List.{flat_map}
-use Rattle.records.specs.Graphs.{Feature}
+use Rattle.std.proofs.Common.{◌≡◌, ◌≤◌, drop}
 use Rattle.graph.specs.Laying.{its, dependency_rows}
 use Rattle.graph.specs.Places.{dep, dependencies_of, number}
 use Rattle.graph.specs.Rules.{each}

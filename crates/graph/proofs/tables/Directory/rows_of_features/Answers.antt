@@ -1,4 +1,4 @@
-use Rattle.std.proofs.Common.{◌≡◌, ℕ, ◌<◌, ◌≤◌, length, arith}
+use Rattle.std.proofs.Common.{ℕ, ◌<◌, ◌≤◌, length, arith}
 use Rattle.std.specs.List.{flat_map}
 use Rattle.records.specs.Graphs.{Feature}
 use Rattle.graph.specs.Directory.{no_feature}

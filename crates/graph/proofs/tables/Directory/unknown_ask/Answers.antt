@@ -1,4 +1,4 @@
-use Rattle.std.proofs.Common.{◌≡◌, ◌≤◌, refl, arith, rules}
+use Rattle.std.proofs.Common.{◌≤◌, refl, arith, rules}
 use Rattle.records.proofs.Listings.{listed-length}
 use Rattle.graph.proofs.tables.Directory.unknown_ask.Goals as goal
 

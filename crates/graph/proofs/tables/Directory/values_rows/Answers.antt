@@ -1,4 +1,4 @@
-use Rattle.std.proofs.Common.{◌≡◌, map, ap, ◌∙◌}
+use Rattle.std.proofs.Common.{map, ap}
 use Rattle.records.specs.Bodies.{form_in, forms}
 use Rattle.graph.specs.Laying.{its, value_rows}
 use Rattle.graph.specs.Sheets.{sheet}

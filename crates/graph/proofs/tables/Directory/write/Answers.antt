@@ -1,7 +1,6 @@
-use Rattle.std.proofs.Common.{◌≡◌, ◌+◌, ◌*◌, ◌≤◌, length, set, sym, ap, ◌∙◌, subst}
+use Rattle.std.proofs.Common.{◌+◌, ◌*◌, ◌≤◌, length, set, ◌∙◌, subst}
 use Rattle.graph.specs.Laying.{its}
 use Rattle.graph.specs.Opening.{most_rows}
-use Rattle.graph.specs.Rules.{rows}
 use Rattle.graph.proofs.Opens.{words-written}
 use Rattle.graph.proofs.tables.Directory.write.Goals as goal
 
