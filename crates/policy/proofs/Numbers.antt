@@ -1,5 +1,5 @@
 -- Lanes and sides are told apart by their numbers.
-use Rattle.std.proofs.Common.{◌≡◌, ℕ, ◌<◌, Bool, true, false, Some, refl, lit<}
+use Rattle.std.proofs.Common.{◌≡◌, ◌<◌, Bool, true, false, Some, refl, lit<}
 use Rattle.records.specs.declared.bodies.Edge.{Edge}
 use Rattle.records.specs.declared.bodies.Edge.TheVariants.{Normal, Build, Dev}
 use Rattle.policy.specs.declared.lanes.Lane.{Lane}

@@ -1,19 +1,18 @@
 -- The table of words that opening wrote is that of the graph.
-use Rattle.std.proofs.Common.{◌≡◌, ℕ, zero, suc, ◌+◌, ◌-◌, ◌*◌, ◌/◌, ◌%◌, ◌<◌, ◌≤◌, Bool, true, false, cond, ◌&&◌, ltb, leb, ◌⊎◌, List, [], ◌∷◌, ◌++◌, map, length, get_or, drop, Some, None, Option, sym, refl, ap, ◌∙◌, subst, inl, inr, ⊎_elim, mod-lt, div-lt_iff_lt-mul, div-add-mod', arith, length-append}
-use lib.Arith.{digits_div, digits_mod}
-use Rattle.std.specs.List.{flat_map}
+use Rattle.std.proofs.Common.{◌≡◌, ℕ, zero, suc, ◌+◌, ◌-◌, ◌*◌, ◌/◌, ◌%◌, ◌<◌, ◌≤◌, Bool, true, false, List, [], ◌∷◌, ◌++◌, length, get_or, drop, Some, None, Option, sym, refl, ap, ◌∙◌, subst, inl, inr, ⊎_elim, arith, length-append}
+use lib.Arith.{digits_mod}
 use Rattle.std.proofs.lemmas.List.{length-map, get_or-map}
 use Rattle.std.proofs.lemmas.Bool.{and_from, le-leb, cases_lt}
-use Rattle.records.specs.Graphs.{Dependency, Graph}
+use Rattle.records.specs.Graphs.{Graph}
 use Rattle.records.specs.Encoding.{bit, edge_number}
 use Rattle.records.specs.declared.bodies.Edge.{Edge}
 use Rattle.records.specs.declared.bodies.Edge.TheVariants.{Normal, Build, Dev}
 use Rattle.graph.specs.declared.rows.Row.{Row}
 use Rattle.graph.specs.Law.{dependency_count, feature_count}
 use Rattle.graph.specs.Opening.{over}
-use Rattle.graph.specs.OpeningLaw.{In, DependencyAt, FeatureAt, NamedAt, Opens, Resolved, Stands, needs, builds, defaults, asks, plainly, switches, joins}
-use Rattle.graph.specs.Places.{Item, unit, dep, feat, proc_of, number, item_count}
-use Rattle.graph.specs.Rules.{Rule, lane_of, no_dependency, rules, rows, row_of, row_words, graph_words, on_some, none}
+use Rattle.graph.specs.OpeningLaw.{In, NamedAt, Opens, Resolved, Stands, needs, builds, defaults, asks, plainly, switches, joins}
+use Rattle.graph.specs.Places.{Item, unit, feat, proc_of, number, item_count}
+use Rattle.graph.specs.Rules.{Rule, no_dependency, rules, rows, row_of, graph_words, on_some}
 use Rattle.graph.proofs.RulesStand.{rule-stands, stands-rule}
 use Rattle.policy.specs.declared.sides.Side.{Side}
 use Rattle.policy.specs.declared.sides.Side.TheVariants.{Target, Host}
@@ -21,12 +20,12 @@ use Rattle.policy.specs.Sides.{sides, side_number, side_at}
 use Rattle.policy.specs.Answers.{Answers}
 use Rattle.rulebook.specs.declared.entries.ItemRule.{ItemRule}
 use Rattle.rulebook.specs.declared.entries.Entry.{Entry}
-use Rattle.rulebook.specs.Tables.{Table, Among, pair}
+use Rattle.rulebook.specs.Tables.{Table, Among}
 use Rattle.rulebook.specs.Watch.{watched, entry_in, rule_table}
 use Rattle.rulebook.specs.GraphTable.{is_whole, local_count, row_count, row_in, landing, row_lead, item_on, rule_to, rule_on, rule_for, graph_table}
 use Rattle.rulebook.specs.GraphRules.{Has, number_on, Leads, Watched, TableOf}
-use Rattle.rulebook.specs.RuleLaws.{cond-true, Watches, Source, source, from-watches, mate-watches}
-use Rattle.rulebook.specs.GraphLaws.{InRange, From, from_row, item-low, item-side}
+use Rattle.rulebook.specs.RuleLaws.{cond-true, source, from-watches, mate-watches}
+use Rattle.rulebook.specs.GraphLaws.{InRange, from_row, item-low, item-side}
 use Rattle.rulebook.proofs.ItemPlaces.{number-low, number_same, number-all, dependency-owner}
 use Rattle.rulebook.proofs.RowWords.{row_back, rows-length}
 

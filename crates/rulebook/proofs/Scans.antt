@@ -1,7 +1,6 @@
 -- How a search for the first entry goes on, row by row.
 use Rattle.std.proofs.Common.{◌≡◌, ℕ, zero, suc, ◌+◌, ◌-◌, ◌<◌, ◌≤◌, Some, None, Option, refl, ap, ◌∙◌, arith}
 use Rattle.rulebook.specs.declared.entries.Entry.{Entry}
-use Rattle.rulebook.specs.declared.entries.Found.{Found}
 use Rattle.rulebook.specs.Tables.{or_later, first_of}
 
 module _ (entry : ℕ → Option Entry) (n r : ℕ) where

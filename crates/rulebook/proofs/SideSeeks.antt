@@ -1,17 +1,15 @@
 -- What an item watches is what the rows of its side give it.
-use Rattle.std.proofs.Common.{◌≡◌, ℕ, ◌-◌, ◌/◌, ◌<◌, Bool, true, false, cond, ◌&&◌, ltb, leb, List, get_or, Some, None, Option, sym, refl, ap, ◌∙◌, arith}
-use Rattle.std.proofs.lemmas.Bool.{cases_Bool, and_parts, ltb-true}
+use Rattle.std.proofs.Common.{◌≡◌, ℕ, ◌-◌, ◌/◌, true, ltb, List, Some, None, Option, sym, refl, ap, ◌∙◌, arith}
+use Rattle.std.proofs.lemmas.Bool.{and_parts}
 use Rattle.graph.specs.declared.rows.Row.{Row}
 use Rattle.policy.specs.declared.sides.Side.{Side}
-use Rattle.policy.specs.declared.sides.Lead.{Lead}
 use Rattle.policy.specs.Sides.{side_at}
 use Rattle.policy.specs.Answers.{Answers}
-use Rattle.rulebook.specs.declared.entries.Entry.{Entry}
 use Rattle.rulebook.specs.Tables.{first_of, seek}
 use Rattle.rulebook.specs.Watch.{in_range, entry_in}
 use Rattle.rulebook.specs.GraphTable.{local_count, row_count, row_at, is_row, row_read, row_in, rule_on, rule_for, graph_table}
 use Rattle.rulebook.specs.GraphLaws.{read-range}
-use Rattle.rulebook.specs.RuleLaws.{cond-some, cond-false}
+use Rattle.rulebook.specs.RuleLaws.{cond-some}
 use Rattle.rulebook.proofs.Scans.{first-none}
 
 pub read_known : (n : ℕ) (ws : List ℕ) (r : ℕ) (row : Row) → row_read n ws r ≡ Some row → in_range n row.from row.mate row.to ≡ true

@@ -1,5 +1,5 @@
 -- What a house book means: rules between items by number.
-use Rattle.std.specs.Prelude.{ℕ, ◌+◌, ◌*◌, ◌/◌, min, cond, ◌&&◌, List, length, Some, None, Option, ◌==◌, nat_le, nat_lt, slice_index}
+use Rattle.std.specs.Prelude.{ℕ, ◌+◌, ◌*◌, ◌/◌, min, cond, List, length, Some, None, Option, ◌==◌, nat_le, nat_lt, slice_index}
 use Rattle.graph.specs.Rules.{none}
 use Rattle.rulebook.specs.declared.entries.ItemRule.{ItemRule}
 use Rattle.rulebook.specs.Tables.{Table, most_items}

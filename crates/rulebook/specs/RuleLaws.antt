@@ -4,7 +4,7 @@ use Rattle.std.proofs.Common.{sym, ap, ◌∙◌, subst, inl, inr, ⊎_elim, ari
 use Rattle.std.proofs.lemmas.Bool.{eqb-true, eq-eqb, ne_eqb, cases_eq}
 use Rattle.rulebook.specs.declared.entries.ItemRule.{ItemRule}
 use Rattle.rulebook.specs.declared.entries.Entry.{Entry}
-use Rattle.rulebook.specs.Tables.{Table, Laws, Among, pair, most_items, most_rows}
+use Rattle.rulebook.specs.Tables.{Laws, Among, pair, most_items, most_rows}
 use Rattle.rulebook.specs.Watch.{is_item, watched, entry_in, rule_table}
 
 pub cond-true : {A : Type 0} (b : Bool) (x y : A) → b ≡ true → cond b x y ≡ x

@@ -1,6 +1,7 @@
 // Rulebooks: tables of watch entries, and the two books that words make.
 
 #![tactic(auto)]
+
 pub mod book;
 pub mod entries;
 pub mod graph_book;

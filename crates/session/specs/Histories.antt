@@ -1,5 +1,5 @@
 -- The calls made on a new session by one rulebook, and what follows from them.
-use Rattle.std.specs.Prelude.{ℕ, zero, suc, ◌+◌, Bool, true, false, cond, not, List, [], ◌∷◌, ◌++◌, fold}
+use Rattle.std.specs.Prelude.{ℕ, zero, suc, ◌+◌, Bool, false, cond, not, List, [], ◌∷◌, ◌++◌, fold}
 use Rattle.rulebook.specs.Tables.{Table}
 use Rattle.session.specs.declared.calls.Outcome.{Outcome}
 use Rattle.session.specs.declared.calls.Outcome.TheVariants.{Settled, Pending}

@@ -1,7 +1,6 @@
-use Rattle.std.proofs.Common.{◌≡◌, ℕ, ◌/◌, List, Some, None, sym, ap, ◌∙◌}
-use Rattle.policy.specs.declared.sides.Lead.{Lead}
+use Rattle.std.proofs.Common.{◌≡◌, ◌/◌, Some, None, sym, ap, ◌∙◌}
 use Rattle.policy.specs.Sides.{side_at}
-use Rattle.policy.specs.Answers.{Answers, told_by}
+use Rattle.policy.specs.Answers.{told_by}
 use Rattle.rulebook.specs.GraphTable.{local_count}
 use Rattle.rulebook.proofs.SideSeeks.{empty-seek, beyond-seek, side-seek}
 use Rattle.rulebook.proofs.graph_book.GraphBookRulebook.seek.Goals as goal

@@ -1,4 +1,4 @@
-use Rattle.std.proofs.Common.{sym, ◌∙◌}
+use Rattle.std.proofs.Common.{sym}
 use Rattle.rulebook.proofs.SideSeeks.{read_known}
 use Rattle.rulebook.proofs.side_rows.SideRowsRuleRows.rule.Goals as goal
 
