@@ -4,7 +4,7 @@ use Rattle.std.proofs.ByRecursion.{All-get_or}
 use Rattle.std.proofs.lemmas.Slice.Eq.{bytes_eq-Decides}
 use Rattle.std.proofs.lemmas.List.{length-append, get_or_append_left, get_or-append-add}
 use Rattle.std.proofs.lemmas.Bool.{cond-true, cond-false, eqb-true, eq-eqb, and_parts, cases_Bool, cases_lt}
-use Rattle.std.specs.List.{AllByRecursion as All}
+use Rattle.std.specs.List.{AllByRecursion}
 use Rattle.std.specs.Str.{bytes_eq}
 use Rattle.records.specs.Graphs.{Feature, Part, dependency, feature, Graph}
 use Rattle.graph.specs.declared.index.Entry.{Entry}
@@ -111,13 +111,13 @@ pub place_none : (fs : List Feature) (n : List ℕ) → ((j : ℕ) → j < lengt
 place_none [] n h = refl
 place_none (f ∷ fs) n h = cond-false _ _ _ (h 0 (omega arith)) ∙ ap later (place_none fs n (λ j l. h (suc j) (omega arith)))
 
-pub features-differ : (g : Graph) (q : ℕ) → All LawfulPackage g → Differ (features_of g q)
+pub features-differ : (g : Graph) (q : ℕ) → AllByRecursion LawfulPackage g → Differ (features_of g q)
 features-differ [] q l = tt
 features-differ (a ∷ g) zero l = l.0.2
 features-differ (a ∷ g) (suc q) l = features-differ g q l.1
 
 -- what a search in the index finds, as the number of the item
-pub finds-item : (file : List ℕ) (entries : List Entry) (n : ℕ) (g : Graph) (q : ℕ) (name : List ℕ) (r : Option ℕ) → n ≤ length entries → keys_of file entries n ≡ keys_from 0 g → All LawfulPackage g → Finds file entries n q name r → on_some (λ k. (length g + dependency_count g) + k) r ≡ on_some (λ j. number g (feat q j)) (place_of (features_of g q) name)
+pub finds-item : (file : List ℕ) (entries : List Entry) (n : ℕ) (g : Graph) (q : ℕ) (name : List ℕ) (r : Option ℕ) → n ≤ length entries → keys_of file entries n ≡ keys_from 0 g → AllByRecursion LawfulPackage g → Finds file entries n q name r → on_some (λ k. (length g + dependency_count g) + k) r ≡ on_some (λ j. number g (feat q j)) (place_of (features_of g q) name)
 finds-item file entries n g q name None l e law f =
     ap (on_some (λ j. number g (feat q j))) (sym (place_none (features_of g q) name (λ j m.
     let h = key-at 0 g q j (key_of file blank) m in

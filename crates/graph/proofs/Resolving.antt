@@ -4,7 +4,7 @@ use Rattle.std.proofs.ByRecursion.{All-get_or, All-from_get_or, All-append, All-
 use Rattle.std.proofs.lemmas.Slice.Eq.{bytes_eq-Decides}
 use Rattle.std.proofs.lemmas.List.{length-append, get_or_append_left, get_or-append-add}
 use Rattle.std.proofs.lemmas.Bool.{cond-true, cond-false, ltb-true, lt-ltb, and_parts, and_from, or_cases, or_left, or_right, cases_Bool, cases_lt}
-use Rattle.std.specs.List.{AllByRecursion as All}
+use Rattle.std.specs.List.{AllByRecursion}
 use Rattle.std.specs.Str.{bytes_eq}
 use Rattle.text.specs.Forms.{Form, plain, switch, strong, weak, spell}
 use Rattle.records.proofs.Numbers.{not-both}
@@ -86,22 +86,22 @@ placed-number g j l = omega (arith, (from_at g 1 (length header_bytes) 0 j l).0)
 pub placed-owner : (g : Graph) (j : ℕ) → j < length (placed g) → (get_or (placed g) j no_placed).owner < length g
 placed-owner g j l = omega (arith, (from_at g 1 (length header_bytes) 0 j l).2)
 
-all_split : {X : Type 0} (P : X → Type 0) (xs ys : List X) → All P (xs ++ ys) → All P xs × All P ys
+all_split : {X : Type 0} (P : X → Type 0) (xs ys : List X) → AllByRecursion P (xs ++ ys) → AllByRecursion P xs × AllByRecursion P ys
 all_split P [] ys h = (tt, h)
 all_split P (x ∷ xs) ys h = let r = all_split P xs ys h.1 in ((h.0, r.0), r.1)
 
 -- what holds of the parts of a package holds of its dependencies and of its features, and the other way round
-dependencies-all : (P : Part → Type 0) (ps : List Part) → All P ps → All (λ d. P (dependency d)) (dependencies_in ps)
+dependencies-all : (P : Part → Type 0) (ps : List Part) → AllByRecursion P ps → AllByRecursion (λ d. P (dependency d)) (dependencies_in ps)
 dependencies-all P [] h = tt
 dependencies-all P (dependency d ∷ ps) h = (h.0, dependencies-all P ps h.1)
 dependencies-all P (feature f ∷ ps) h = dependencies-all P ps h.1
 
-features-all : (P : Part → Type 0) (ps : List Part) → All P ps → All (λ f. P (feature f)) (features_in ps)
+features-all : (P : Part → Type 0) (ps : List Part) → AllByRecursion P ps → AllByRecursion (λ f. P (feature f)) (features_in ps)
 features-all P [] h = tt
 features-all P (dependency d ∷ ps) h = features-all P ps h.1
 features-all P (feature f ∷ ps) h = (h.0, features-all P ps h.1)
 
-parts_all : (P : Part → Type 0) (ps : List Part) → All (λ d. P (dependency d)) (dependencies_in ps) → All (λ f. P (feature f)) (features_in ps) → All P ps
+parts_all : (P : Part → Type 0) (ps : List Part) → AllByRecursion (λ d. P (dependency d)) (dependencies_in ps) → AllByRecursion (λ f. P (feature f)) (features_in ps) → AllByRecursion P ps
 parts_all P [] h k = tt
 parts_all P (dependency d ∷ ps) h k = (h.0, parts_all P ps h.1 k)
 parts_all P (feature f ∷ ps) h k = (k.0, parts_all P ps h k.1)
@@ -111,65 +111,65 @@ module _ (Q : ℕ → Part → Type 0) where
   abbrev Held : Placed → Type 0
   Held x = Q x.owner x.part
 
-  parts_held : (ps : List Part) (number start owner : ℕ) → All Held (placed_parts number start owner ps) → All (Q owner) ps
+  parts_held : (ps : List Part) (number start owner : ℕ) → AllByRecursion Held (placed_parts number start owner ps) → AllByRecursion (Q owner) ps
   parts_held [] number start owner h = tt
   parts_held (x ∷ ps) number start owner h = (h.0, parts_held ps (number + 1) (start + length (part_bytes x)) owner h.1)
 
-  held-parts : (ps : List Part) (number start owner : ℕ) → All (Q owner) ps → All Held (placed_parts number start owner ps)
+  held-parts : (ps : List Part) (number start owner : ℕ) → AllByRecursion (Q owner) ps → AllByRecursion Held (placed_parts number start owner ps)
   held-parts [] number start owner h = tt
   held-parts (x ∷ ps) number start owner h = (h.0, held-parts ps (number + 1) (start + length (part_bytes x)) owner h.1)
 
-  from-held : (g : Graph) (number start owner : ℕ) → All Held (placed_from number start owner g) → (p : ℕ) → All (Q (owner + p)) (parts_of g p)
+  from-held : (g : Graph) (number start owner : ℕ) → AllByRecursion Held (placed_from number start owner g) → (p : ℕ) → AllByRecursion (Q (owner + p)) (parts_of g p)
   from-held [] number start owner h p = tt
   from-held (a ∷ g) number start owner h zero =
       let at : ℕ = start + length (package_record a) in
       let z : owner ≡ owner + 0 = omega arith in
-      subst (λ o. All (Q o) a.parts) z (parts_held a.parts (number + 1) at owner (all_split Held (placed_parts (number + 1) at owner a.parts) _ h).0)
+      subst (λ o. AllByRecursion (Q o) a.parts) z (parts_held a.parts (number + 1) at owner (all_split Held (placed_parts (number + 1) at owner a.parts) _ h).0)
   from-held (a ∷ g) number start owner h (suc p) =
       let at : ℕ = start + length (package_record a) in
       let z : (owner + 1) + p ≡ owner + suc p = omega arith in
-      subst (λ o. All (Q o) (parts_of g p)) z (from-held g ((number + 1) + length a.parts) (at + parts_length a.parts) (owner + 1) (all_split Held (placed_parts (number + 1) at owner a.parts) _ h).1 p)
+      subst (λ o. AllByRecursion (Q o) (parts_of g p)) z (from-held g ((number + 1) + length a.parts) (at + parts_length a.parts) (owner + 1) (all_split Held (placed_parts (number + 1) at owner a.parts) _ h).1 p)
 
-  held-from : (g : Graph) (number start owner : ℕ) → ((p : ℕ) → All (Q (owner + p)) (parts_of g p)) → All Held (placed_from number start owner g)
+  held-from : (g : Graph) (number start owner : ℕ) → ((p : ℕ) → AllByRecursion (Q (owner + p)) (parts_of g p)) → AllByRecursion Held (placed_from number start owner g)
   held-from [] number start owner h = tt
   held-from (a ∷ g) number start owner h =
       let at : ℕ = start + length (package_record a) in
       let z : owner + 0 ≡ owner = omega arith in
       All-append Held (placed_parts (number + 1) at owner a.parts) _
-      (held-parts a.parts (number + 1) at owner (subst (λ o. All (Q o) a.parts) z (h 0)))
+      (held-parts a.parts (number + 1) at owner (subst (λ o. AllByRecursion (Q o) a.parts) z (h 0)))
       (held-from g ((number + 1) + length a.parts) (at + parts_length a.parts) (owner + 1) (λ p.
       let s : owner + suc p ≡ (owner + 1) + p = omega arith in
-      subst (λ o. All (Q o) (parts_of g p)) s (h (suc p))))
+      subst (λ o. AllByRecursion (Q o) (parts_of g p)) s (h (suc p))))
 
   -- of dependencies and of features, by place
-  pub held-dependency : (g : Graph) → All Held (placed g) → (p k : ℕ) (d : Dependency) → DependencyAt g p k d → Q p (dependency d)
+  pub held-dependency : (g : Graph) → AllByRecursion Held (placed g) → (p k : ℕ) (d : Dependency) → DependencyAt g p k d → Q p (dependency d)
   held-dependency g h p k d at =
       let z : 0 + p ≡ p = omega arith in
-      subst (λ x. Q p (dependency x)) at.1 (All-get_or (λ x. Q p (dependency x)) (dependencies_of g p) k no_dependency at.0 (dependencies-all (Q p) (parts_of g p) (subst (λ o. All (Q o) (parts_of g p)) z (from-held g 1 (length header_bytes) 0 h p))))
+      subst (λ x. Q p (dependency x)) at.1 (All-get_or (λ x. Q p (dependency x)) (dependencies_of g p) k no_dependency at.0 (dependencies-all (Q p) (parts_of g p) (subst (λ o. AllByRecursion (Q o) (parts_of g p)) z (from-held g 1 (length header_bytes) 0 h p))))
 
-  pub held-feature : (g : Graph) → All Held (placed g) → (p k : ℕ) (f : Feature) → FeatureAt g p k f → Q p (feature f)
+  pub held-feature : (g : Graph) → AllByRecursion Held (placed g) → (p k : ℕ) (f : Feature) → FeatureAt g p k f → Q p (feature f)
   held-feature g h p k f at =
       let z : 0 + p ≡ p = omega arith in
-      subst (λ x. Q p (feature x)) at.1 (All-get_or (λ x. Q p (feature x)) (features_of g p) k no_feature at.0 (features-all (Q p) (parts_of g p) (subst (λ o. All (Q o) (parts_of g p)) z (from-held g 1 (length header_bytes) 0 h p))))
+      subst (λ x. Q p (feature x)) at.1 (All-get_or (λ x. Q p (feature x)) (features_of g p) k no_feature at.0 (features-all (Q p) (parts_of g p) (subst (λ o. AllByRecursion (Q o) (parts_of g p)) z (from-held g 1 (length header_bytes) 0 h p))))
 
-  pub all_held : (g : Graph) → ((p k : ℕ) (d : Dependency) → DependencyAt g p k d → Q p (dependency d)) → ((p k : ℕ) (f : Feature) → FeatureAt g p k f → Q p (feature f)) → All Held (placed g)
+  pub all_held : (g : Graph) → ((p k : ℕ) (d : Dependency) → DependencyAt g p k d → Q p (dependency d)) → ((p k : ℕ) (f : Feature) → FeatureAt g p k f → Q p (feature f)) → AllByRecursion Held (placed g)
   all_held g ds fs = held-from g 1 (length header_bytes) 0 (λ p.
       let z : p ≡ 0 + p = omega arith in
-      subst (λ o. All (Q o) (parts_of g p)) z (parts_all (Q p) (parts_of g p)
+      subst (λ o. AllByRecursion (Q o) (parts_of g p)) z (parts_all (Q p) (parts_of g p)
       (All-from_get_or (λ x. Q p (dependency x)) (dependencies_of g p) no_dependency (λ k l. ds p k (get_or (dependencies_of g p) k no_dependency) (l, refl)))
       (All-from_get_or (λ x. Q p (feature x)) (features_of g p) no_feature (λ k l. fs p k (get_or (features_of g p) k no_feature) (l, refl)))))
 
 -- a check finds no fault exactly if it finds none in any record
 module _ (test : Placed → Option ℕ) where
-  checked-all : (xs : List Placed) → checked test xs ≡ Ok tt → All (λ x. test x ≡ None) xs
+  checked-all : (xs : List Placed) → checked test xs ≡ Ok tt → AllByRecursion (λ x. test x ≡ None) xs
   checked-all [] e = tt
   checked-all (x ∷ xs) e = go (test x) refl e (checked-all xs)
     where
-      go : (o : Option ℕ) → test x ≡ o → fault_at x o (checked test xs) ≡ Ok tt → (checked test xs ≡ Ok tt → All (λ y. test y ≡ None) xs) → All (λ y. test y ≡ None) (x ∷ xs)
+      go : (o : Option ℕ) → test x ≡ o → fault_at x o (checked test xs) ≡ Ok tt → (checked test xs ≡ Ok tt → AllByRecursion (λ y. test y ≡ None) xs) → AllByRecursion (λ y. test y ≡ None) (x ∷ xs)
       go None q h more = (q, more h)
       go (Some at) q h more = absurd (not-both h)
 
-  all-checked : (xs : List Placed) → All (λ x. test x ≡ None) xs → checked test xs ≡ Ok tt
+  all-checked : (xs : List Placed) → AllByRecursion (λ x. test x ≡ None) xs → checked test xs ≡ Ok tt
   all-checked [] h = refl
   all-checked (x ∷ xs) h = ap (λ o. fault_at x o (checked test xs)) h.0 ∙ all-checked xs h.1
 
@@ -192,15 +192,15 @@ known-end g d l = cond-true _ _ _ (lt-ltb d.end (length g) l)
 
 -- no string is unknown exactly if each is known
 module _ {A : Type 0} (test : A → Bool) (size : A → ℕ) where
-  none-unknown : (at : ℕ) (xs : List A) → first_unknown test size at xs ≡ None → All (λ x. test x ≡ true) xs
+  none-unknown : (at : ℕ) (xs : List A) → first_unknown test size at xs ≡ None → AllByRecursion (λ x. test x ≡ true) xs
   none-unknown at [] e = tt
   none-unknown at (x ∷ xs) e = go (test x) refl e (none-unknown ((at + 1) + size x) xs)
     where
-      go : (b : Bool) → test x ≡ b → cond b (first_unknown test size ((at + 1) + size x) xs) (Some (at + 1)) ≡ None → (first_unknown test size ((at + 1) + size x) xs ≡ None → All (λ y. test y ≡ true) xs) → All (λ y. test y ≡ true) (x ∷ xs)
+      go : (b : Bool) → test x ≡ b → cond b (first_unknown test size ((at + 1) + size x) xs) (Some (at + 1)) ≡ None → (first_unknown test size ((at + 1) + size x) xs ≡ None → AllByRecursion (λ y. test y ≡ true) xs) → AllByRecursion (λ y. test y ≡ true) (x ∷ xs)
       go true q h more = (q, more h)
       go false q h more = absurd (let z : ◌≡◌ {A = ℕ} 0 1 = cc in omega arith)
 
-  unknown-none : (at : ℕ) (xs : List A) → All (λ x. test x ≡ true) xs → first_unknown test size at xs ≡ None
+  unknown-none : (at : ℕ) (xs : List A) → AllByRecursion (λ x. test x ≡ true) xs → first_unknown test size at xs ≡ None
   unknown-none at [] h = refl
   unknown-none at (x ∷ xs) h = cond-true _ _ _ h.0 ∙ unknown-none ((at + 1) + size x) xs h.1
 
@@ -280,11 +280,11 @@ module _ (g : Graph) (n x : List ℕ) where
       (λ (q : bytes_eq d.name n ≡ false). cond-false _ _ _ q)
       (cases_Bool (bytes_eq d.name n))
 
-  ends-all : (ds : List Dependency) → ends_have g ds n x ≡ true → All (λ d. end_has g n x d ≡ true) ds
+  ends-all : (ds : List Dependency) → ends_have g ds n x ≡ true → AllByRecursion (λ d. end_has g n x d ≡ true) ds
   ends-all [] e = tt
   ends-all (d ∷ ds) e = let b = and_parts (end_has g n x d) (ends_have g ds n x) e in (b.0, ends-all ds b.1)
 
-  all-ends : (ds : List Dependency) → All (λ d. end_has g n x d ≡ true) ds → ends_have g ds n x ≡ true
+  all-ends : (ds : List Dependency) → AllByRecursion (λ d. end_has g n x d ≡ true) ds → ends_have g ds n x ≡ true
   all-ends [] h = refl
   all-ends (d ∷ ds) h = and_from (end_has g n x d) (ends_have g ds n x) h.0 (all-ends ds h.1)
 

@@ -4,7 +4,7 @@ use Rattle.std.proofs.ByRecursion.{All-append}
 use Rattle.std.proofs.lemmas.Slice.Eq.{bytes_eq-Decides}
 use Rattle.std.proofs.lemmas.List.{length_push}
 use Rattle.std.proofs.lemmas.Bool.{both_ways, cases_Bool, eq-eqb, ne_eqb, and_parts, and_from, and_left, or_parts, or_from}
-use Rattle.std.specs.List.{flat_map, AllByRecursion as All}
+use Rattle.std.specs.List.{flat_map, AllByRecursion}
 use Rattle.std.specs.Str.{bytes_eq}
 use Rattle.text.specs.Names.{Name}
 use Rattle.records.specs.Graphs.{Dependency, Feature, Part, dependency, feature, Package, Graph}
@@ -42,7 +42,7 @@ new-push o n (j ∷ ks) k h =
 
 -- every key is of a package below p
 abbrev pub Owners : ℕ → List Key → Type 0
-Owners p ks = All (λ k. k.owner < p) ks
+Owners p ks = AllByRecursion (λ k. k.owner < p) ks
 
 owners-new : (p o : ℕ) (n : List ℕ) (ks : List Key) → p ≤ o → Owners p ks → has_key o n ks ≡ false
 owners-new p o n [] l h = refl
@@ -55,11 +55,11 @@ owners-more p (k ∷ ks) h = (omega (arith, h.0), owners-more p ks h.1)
 
 -- every feature has a name that is new among the keys
 abbrev New : ℕ → List Key → List Feature → Type 0
-New o ks fs = All (λ f. has_key o f.name ks ≡ false) fs
+New o ks fs = AllByRecursion (λ f. has_key o f.name ks ≡ false) fs
 
 -- no feature has this name
 abbrev Without : List ℕ → List Feature → Type 0
-Without m fs = All (λ h. h.name ≡ m → ⊥) fs
+Without m fs = AllByRecursion (λ h. h.name ≡ m → ⊥) fs
 
 all_new : (p o : ℕ) (ks : List Key) (fs : List Feature) → p ≤ o → Owners p ks → New o ks fs
 all_new p o ks [] l h = tt
@@ -79,10 +79,10 @@ push-all o m ks (f ∷ fs) n =
 -- these parts and packages may follow so many packages and dependencies and these features
 pub record May (packages dependencies : ℕ) (keys : List Key) (ps : List Part) (gs : Graph) : Type 0 where
   pub owned : packages ≡ 0 → ps ≡ []
-  pub parts : All LawfulPart ps
+  pub parts : AllByRecursion LawfulPart ps
   pub new : New (packages - 1) keys (features_in ps)
   pub apart : Differ (features_in ps)
-  pub lawful : All LawfulPackage gs
+  pub lawful : AllByRecursion LawfulPackage gs
   pub few_packages : packages + length gs ≤ most_packages
   pub few_dependencies : dependencies + (length (dependencies_in ps) + dependency_count gs) ≤ most_dependencies
   pub few_features : length keys + (length (features_in ps) + feature_count gs) ≤ most_features

@@ -1,6 +1,6 @@
 -- A directory that is being filled: the tables tell what lies before, and the file what lies ahead.
 use Rattle.std.specs.Prelude.{◌≡◌, ℕ, ◌+◌, ◌-◌, ◌<◌, ◌≤◌, Bool, false, List, [], ◌∷◌, ◌++◌, length, drop, ◌==◌, slice_index, slice_index_or}
-use Rattle.std.specs.List.{flat_map, AllByRecursion as All}
+use Rattle.std.specs.List.{flat_map, AllByRecursion}
 use Rattle.records.specs.Graphs.{Part, dependency, feature, Graph}
 use Rattle.records.specs.Encoding.{part_bytes, package_bytes, header_bytes, end_bytes}
 use Rattle.graph.specs.declared.tables.PackageEntry.{PackageEntry}
@@ -66,8 +66,8 @@ pub record Ahead (file : List ℕ) (t : Tables) (start p d f : ℕ) (ps : List P
   pub rest : List ℕ
   pub within : start ≤ length file
   pub bytes : drop start file ≡ flat_map part_bytes ps ++ (flat_map package_bytes gs ++ (end_bytes ++ rest))
-  pub parts : All LawfulPart ps
-  pub packages : All LawfulPackage gs
+  pub parts : AllByRecursion LawfulPart ps
+  pub packages : AllByRecursion LawfulPackage gs
   pub few_packages : p + length gs ≤ most_packages
   pub few_dependencies : d + (length (dependencies_in ps) + dependency_count gs) ≤ most_dependencies
   pub few_features : f + (length (features_in ps) + feature_count gs) ≤ most_features

@@ -1,6 +1,6 @@
 -- Lawful graphs, and which files say one.
 use Rattle.std.specs.Prelude.{◌≡◌, ℕ, ◌+◌, ◌≤◌, List, [], ◌∷◌, ◌++◌, length, Ok, ◌≢◌}
-use Rattle.std.specs.List.{AllByRecursion as All}
+use Rattle.std.specs.List.{AllByRecursion}
 use Rattle.text.specs.Names.{Name}
 use Rattle.records.specs.Graphs.{Dependency, Feature, Part, dependency, feature, Package, Graph}
 use Rattle.records.specs.Encoding.{encode, LawfulDependency, LawfulFeature}
@@ -34,14 +34,14 @@ LawfulPart (feature f) = LawfulFeature f
 -- no two features have one name
 abbrev pub Differ : List Feature → Type 0
 Differ [] = Unit {0}
-Differ (f ∷ fs) = All (λ h. h.name ≢ f.name) fs × Differ fs
+Differ (f ∷ fs) = AllByRecursion (λ h. h.name ≢ f.name) fs × Differ fs
 
 abbrev pub LawfulPackage : Package → Type 0
-LawfulPackage p = Name p.name × All LawfulPart p.parts × Differ (features_in p.parts)
+LawfulPackage p = Name p.name × AllByRecursion LawfulPart p.parts × Differ (features_in p.parts)
 
 -- names and strings are lawful, no package has a feature twice, and the limits are kept
 pub record Lawful (g : Graph) : Type 0 where
-  pub packages : All LawfulPackage g
+  pub packages : AllByRecursion LawfulPackage g
   pub few_packages : length g ≤ most_packages
   pub few_dependencies : dependency_count g ≤ most_dependencies
   pub few_features : feature_count g ≤ most_features

@@ -1,6 +1,6 @@
 -- Opening accepts exactly the lawful graphs, and lays down exactly their rules.
 use Rattle.std.specs.Prelude.{◌≡◌, ℕ, ◌+◌, ◌*◌, ◌<◌, ◌≤◌, true, false, ◌⊎◌, List, [], ◌∷◌, length, Some, None, Ok, codes, Result, slice_index_or}
-use Rattle.std.specs.List.{AllByRecursion as All}
+use Rattle.std.specs.List.{AllByRecursion}
 use Rattle.text.specs.Forms.{Form, plain, switch, strong, weak}
 use Rattle.records.specs.Graphs.{Dependency, Feature, Graph}
 use Rattle.records.specs.Encoding.{encode}
@@ -48,8 +48,8 @@ Resolves g p (weak n x) = HasDependency g p n × EndsHave g p n x
 -- every reference of a graph is resolved
 pub record Resolved (g : Graph) : Type 0 where
   pub ends : (p k : ℕ) (d : Dependency) → DependencyAt g p k d → d.end < length g
-  pub asks : (p k : ℕ) (d : Dependency) → DependencyAt g p k d → All (HasFeature g d.end) d.asks
-  pub values : (p k : ℕ) (f : Feature) → FeatureAt g p k f → All (Resolves g p) f.values
+  pub asks : (p k : ℕ) (d : Dependency) → DependencyAt g p k d → AllByRecursion (HasFeature g d.end) d.asks
+  pub values : (p k : ℕ) (f : Feature) → FeatureAt g p k f → AllByRecursion (Resolves g p) f.values
 
 -- the file says this graph, its references are resolved, its rows are few enough and the words suffice
 pub record Opens (file words : List ℕ) (g : Graph) : Type 0 where

@@ -2,7 +2,7 @@
 use Rattle.std.proofs.Common.{◌≡◌, ℕ, ◌+◌, ◌*◌, ◌<◌, ◌≤◌, Bool, true, false, cond, eqb, ltb, List, [], ◌∷◌, ◌++◌, length, take, drop, Ok, Err, Result, sym, refl, ap, ◌∙◌, subst, arith}
 use Rattle.std.proofs.lemmas.List.{length-append, take-append-drop, length-take-le, take_at, drop_at}
 use Rattle.std.proofs.lemmas.Bool.{cond-false, le-ltb, ltb-false, eqb-true, ne_eqb}
-use Rattle.std.specs.List.{flat_map, AllByRecursion as All}
+use Rattle.std.specs.List.{flat_map, AllByRecursion}
 use Rattle.text.specs.declared.faults.StringFault.{StringFault}
 use Rattle.text.specs.declared.faults.StringFault.TheVariants.{NoForm}
 use Rattle.text.specs.Names.{Name}
@@ -177,7 +177,7 @@ form-coded = string-coded form_of unplaced Lawful spell form-judged form-judges
 
 -- lists
 module _ {A : Type 0} {m : Field A} {Good : A → Type 0} {bytes : A → List ℕ} (code : Coded m Good bytes) where
-  list-coded : Coded (and_then byte_field (many m)) (λ xs. (length xs < 256) × All Good xs) (list_bytes bytes)
+  list-coded : Coded (and_then byte_field (many m)) (λ xs. (length xs < 256) × AllByRecursion Good xs) (list_bytes bytes)
   list-coded = record {
     sound = λ bs k xs w fit e.
         let h = first (byte_of bs k) (many m) xs w e in
@@ -192,10 +192,10 @@ module _ {A : Type 0} {m : Field A} {Good : A → Type 0} {bytes : A → List �
         (many-coded code (length xs)).complete xs rest (k + 1) (good.1, refl) ∙ ap (λ j. Ok (xs, at rest j)) z;
   }
 
-pub names-coded : Coded names_field (λ ts. (length ts < 256) × All Name ts) (list_bytes string)
+pub names-coded : Coded names_field (λ ts. (length ts < 256) × AllByRecursion Name ts) (list_bytes string)
 names-coded = list-coded name-coded
 
-pub forms-coded : Coded forms_field (λ fs. (length fs < 256) × All Lawful fs) (list_bytes value)
+pub forms-coded : Coded forms_field (λ fs. (length fs < 256) × AllByRecursion Lawful fs) (list_bytes value)
 forms-coded = list-coded form-coded
 
 -- bodies
@@ -206,10 +206,10 @@ package-closed =
     then-closed name-coded (λ h. h.name) _ _ _ _ (λ name.
     closed-give (record { proc = proc; name = name }) _ ((tt, refl), refl) (λ h b. λ i. record { proc = b.0.1 i; name = b.1 i })))
 
-pub values-closed : Closed values_field (λ _. Unit {0}) (λ fs. ((length fs < 256) × All Lawful fs) × Unit {0}) (λ fs. list_bytes value fs ++ [])
+pub values-closed : Closed values_field (λ _. Unit {0}) (λ fs. ((length fs < 256) × AllByRecursion Lawful fs) × Unit {0}) (λ fs. list_bytes value fs ++ [])
 values-closed = then-closed forms-coded (λ fs. fs) _ _ _ _ (λ fs. closed-give fs _ (tt, refl) (λ gs b. b.1))
 
-pub dependency-closed : Closed dependency_field (λ _. Unit {0}) (λ d. (d.end < 65536) × (Unit {0} × (Unit {0} × (Unit {0} × (Name d.name × (((length d.asks < 256) × All Name d.asks) × Unit {0}))))))
+pub dependency-closed : Closed dependency_field (λ _. Unit {0}) (λ d. (d.end < 65536) × (Unit {0} × (Unit {0} × (Unit {0} × (Name d.name × (((length d.asks < 256) × AllByRecursion Name d.asks) × Unit {0}))))))
     (λ d. two d.end ++ ((edge_number d.edge ∷ []) ++ ((bit d.optional ∷ []) ++ ((bit d.defaults ∷ []) ++ (string d.name ++ (list_bytes string d.asks ++ []))))))
 dependency-closed =
     then-closed word-coded (λ d. d.end) _ _ _ _ (λ end.

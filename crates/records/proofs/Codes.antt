@@ -1,7 +1,7 @@
 -- Fields that read just what an encoding writes.
 use Rattle.std.proofs.Common.{◌≡◌, ℕ, zero, suc, ◌+◌, List, [], ◌∷◌, ◌++◌, length, Ok, Err, Result, sym, refl, ap, ◌∙◌, subst, append_assoc, arith}
 use Rattle.std.proofs.lemmas.List.{length-append}
-use Rattle.std.specs.List.{flat_map, AllByRecursion as All}
+use Rattle.std.specs.List.{flat_map, AllByRecursion}
 use Rattle.records.specs.declared.faults.RecordFault.{RecordFault}
 use Rattle.records.specs.Fields.{View, Field, on_ok, and_then, give, closed_of, closed_field}
 use Rattle.records.specs.Bodies.{many}
@@ -53,10 +53,10 @@ closed-give {B} b Before known only = record {
 
 -- so many fields alike
 module _ {A : Type 0} {m : Field A} {Good : A → Type 0} {bytes : A → List ℕ} (code : Coded m Good bytes) where
-  many-sound : (n : ℕ) (bs : List ℕ) (k : ℕ) (xs : List A) (w : View) → Bytes bs → many m n (at bs k) ≡ Ok (xs, w) → (All Good xs × (length xs ≡ n)) × (bs ≡ flat_map bytes xs ++ w.left) × (w.place ≡ k + length (flat_map bytes xs))
+  many-sound : (n : ℕ) (bs : List ℕ) (k : ℕ) (xs : List A) (w : View) → Bytes bs → many m n (at bs k) ≡ Ok (xs, w) → (AllByRecursion Good xs × (length xs ≡ n)) × (bs ≡ flat_map bytes xs ++ w.left) × (w.place ≡ k + length (flat_map bytes xs))
   many-sound zero bs k xs w fit e =
       let q = in-ok ([], at bs k) (xs, w) e in (
-        subst (λ p. All Good p.0 × (length p.0 ≡ 0)) q (tt, refl),
+        subst (λ p. AllByRecursion Good p.0 × (length p.0 ≡ 0)) q (tt, refl),
         subst (λ p. bs ≡ flat_map bytes p.0 ++ p.1.left) q refl,
         subst (λ p. p.1.place ≡ k + length (flat_map bytes p.0)) q (omega arith),
       )
@@ -66,12 +66,12 @@ module _ {A : Type 0} {m : Field A} {Good : A → Type 0} {bytes : A → List �
       let g = first (many m n h.1) (λ more. give (h.0 ∷ more)) xs w h.3 in
       let r = many-sound n h.1.left h.1.place g.0 g.1 (bytes-split (bytes h.0) h.1.left (subst Bytes c.1 fit)).1 g.2 in
       let q = in-ok (h.0 ∷ g.0, g.1) (xs, w) g.3 in (
-        subst (λ p. All Good p.0 × (length p.0 ≡ suc n)) q ((c.0, r.0.0), ap suc r.0.1),
+        subst (λ p. AllByRecursion Good p.0 × (length p.0 ≡ suc n)) q ((c.0, r.0.0), ap suc r.0.1),
         subst (λ p. bs ≡ flat_map bytes p.0 ++ p.1.left) q (c.1 ∙ ap (λ y. bytes h.0 ++ y) r.1 ∙ sym (append_assoc (bytes h.0) (flat_map bytes g.0) g.1.left)),
         subst (λ p. p.1.place ≡ k + length (flat_map bytes p.0)) q (omega (arith, r.2, c.2, length-append (bytes h.0) (flat_map bytes g.0))),
       )
 
-  many-complete : (xs : List A) (rest : List ℕ) (k : ℕ) → All Good xs → many m (length xs) (at (flat_map bytes xs ++ rest) k) ≡ Ok (xs, at rest (k + length (flat_map bytes xs)))
+  many-complete : (xs : List A) (rest : List ℕ) (k : ℕ) → AllByRecursion Good xs → many m (length xs) (at (flat_map bytes xs ++ rest) k) ≡ Ok (xs, at rest (k + length (flat_map bytes xs)))
   many-complete [] rest k good = let e : k ≡ k + 0 = omega arith in ap (λ p. Ok ([], at rest p)) e
   many-complete (x ∷ xs) rest k good =
       let e = code.complete x (flat_map bytes xs ++ rest) k good.0 in
@@ -82,7 +82,7 @@ module _ {A : Type 0} {m : Field A} {Good : A → Type 0} {bytes : A → List �
       ∙ ap (λ r. on_ok r (λ more. give (x ∷ more))) f
       ∙ ap (λ j. Ok (x ∷ xs, at rest j)) p
 
-  pub many-coded : (n : ℕ) → Coded (many m n) (λ xs. All Good xs × (length xs ≡ n)) (flat_map bytes)
+  pub many-coded : (n : ℕ) → Coded (many m n) (λ xs. AllByRecursion Good xs × (length xs ≡ n)) (flat_map bytes)
   many-coded n = record {
     sound = many-sound n;
     complete = λ xs rest k good. ap (λ j. many m j (at (flat_map bytes xs ++ rest) k)) (sym good.1) ∙ many-complete xs rest k good.0;

@@ -1,6 +1,6 @@
 -- From graphs to bytes.
 use Rattle.std.specs.Prelude.{ℕ, ◌+◌, ◌/◌, ◌%◌, ◌<◌, Bool, true, false, List, [], ◌∷◌, ◌++◌, length}
-use Rattle.std.specs.List.{flat_map, AllByRecursion as All}
+use Rattle.std.specs.List.{flat_map, AllByRecursion}
 use Rattle.text.specs.Names.{Name}
 use Rattle.text.specs.Forms.{Form, spell, Lawful}
 use Rattle.records.specs.declared.bodies.Edge.{Edge}
@@ -81,10 +81,10 @@ encode g = header_bytes ++ (flat_map package_bytes g ++ end_bytes)
 
 -- what is asked of a dependency and of a feature by itself
 abbrev pub LawfulDependency : Dependency → Type 0
-LawfulDependency d = (d.end < 65536) × Name d.name × (length d.asks < 256) × All Name d.asks
+LawfulDependency d = (d.end < 65536) × Name d.name × (length d.asks < 256) × AllByRecursion Name d.asks
 
 abbrev pub LawfulFeature : Feature → Type 0
-LawfulFeature f = Name f.name × (length f.values < 256) × All Lawful f.values
+LawfulFeature f = Name f.name × (length f.values < 256) × AllByRecursion Lawful f.values
 
 abbrev pub Bytes : List ℕ → Type 0
-Bytes bs = All (λ b. b < 256) bs
+Bytes bs = AllByRecursion (λ b. b < 256) bs

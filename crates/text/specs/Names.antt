@@ -1,6 +1,6 @@
 -- Names of packages, dependencies and features.
 use Rattle.std.specs.Prelude.{◌≡◌, ℕ, ◌≤◌, Bool, true, ◌&&◌, ◌||◌, List, [], ◌∷◌, length, ◌==◌, nat_le}
-use Rattle.std.specs.List.{AllByRecursion as All}
+use Rattle.std.specs.List.{AllByRecursion}
 
 -- c is one of the characters from lo to hi
 abbrev pub between : ℕ → ℕ → ℕ → Bool
@@ -16,7 +16,7 @@ inner c = initial c || (c == 45 || (c == 43 || c == 46))
 
 -- each byte may stand inside a name
 abbrev pub Inner : List ℕ → Type 0
-Inner bs = All (λ c. inner c ≡ true) bs
+Inner bs = AllByRecursion (λ c. inner c ≡ true) bs
 
 -- the most bytes that a name has
 abbrev pub longest : ℕ
