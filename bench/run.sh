@@ -1,10 +1,10 @@
 #!/bin/sh
 # Times the program demo on large graph files: the median wall time of five runs each, with what it prints thrown away.
-# Run it after `rt check demo`.
+# Run it after `rt run` in crates/demo, which leaves the program there.
 set -eu
 root=$(cd "$(dirname "$0")/.." && pwd)
-demo=$root/target/bin/demo
-[ -x "$demo" ] || { echo "no $demo: run rt check demo first" >&2; exit 1; }
+demo=$root/crates/demo/out/demo
+[ -x "$demo" ] || { echo "no $demo: run rt run in crates/demo first" >&2; exit 1; }
 folder=$(mktemp -d)
 trap 'rm -rf "$folder"' EXIT
 python3 "$root/bench/make_graphs.py" "$folder" >/dev/null

@@ -1,5 +1,5 @@
 -- What a directory tells of the graph of its file.
-use Rattle.std.specs.Prelude.{◌≡◌, ℕ, ◌+◌, ◌<◌, ◌≤◌, false, List, ◌++◌, length, get_or, drop, Ok, Err, Result, slice_index, slice_index_or}
+use Rattle.std.specs.Prelude.{◌≡◌, ℕ, ◌+◌, ◌<◌, ◌≤◌, false, List, ◌++◌, length, drop, Ok, Err, Result, slice_index, slice_index_or}
 use Rattle.records.specs.declared.bodies.Edge.TheVariants.{Normal}
 use Rattle.records.specs.Graphs.{Dependency, Feature, Part, dependency, feature, Graph}
 use Rattle.records.specs.Encoding.{part_bytes, encode}
@@ -57,7 +57,7 @@ pub record Tells (dir : Directory) (g : Graph) : Type 0 where
   pub packaged : (p : ℕ) → p < length g → slice_index_or dir.packages p no_package ≡ record { proc_mark = proc_of g p; dependency = dependencies_before g p; feature = features_before g p }
   pub depending : (p k : ℕ) → k < length (dependencies_of g p) → Stands dir.index.file.now (slice_index dir.dependencies (dependencies_before g p + k)) (dependency (slice_index_or (dependencies_of g p) k no_dependency))
   pub featuring : (p k : ℕ) → k < length (features_of g p) → Stands dir.index.file.now (slice_index dir.features (features_before g p + k)) (feature (slice_index_or (features_of g p) k no_feature))
-  pub parted : (j : ℕ) → j < length (placed g) → Stands dir.index.file.now (get_or dir.parts j no_part).start (get_or (placed g) j no_placed).part × (slice_index_or dir.parts j no_part ≡ record { start = (get_or (placed g) j no_placed).start; owner = (get_or (placed g) j no_placed).owner })
+  pub parted : (j : ℕ) → j < length (placed g) → Stands dir.index.file.now (slice_index_or dir.parts j no_part).start (slice_index_or (placed g) j no_placed).part × (slice_index_or dir.parts j no_part ≡ record { start = (slice_index_or (placed g) j no_placed).start; owner = (slice_index_or (placed g) j no_placed).owner })
 
 -- what a reading that answers a directory answers
 abbrev pub ReadAs : List ℕ → Result Directory FileFault → Type 0

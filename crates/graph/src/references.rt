@@ -1,5 +1,5 @@
 // The second reading of a file: ends, asks and feature strings, in file order.
-ghost use Rattle.std.specs.Prelude.{◌≡◌, ◌+◌, ◌<◌, ◌≤◌, length, get_or, slice_index_or};
+ghost use Rattle.std.specs.Prelude.{◌≡◌, ◌+◌, ◌<◌, ◌≤◌, length, slice_index_or};
 ghost use Rattle.text.specs.Forms.{spell};
 ghost use Rattle.records.specs.Bodies.{texts, forms};
 ghost use Rattle.graph.specs.Checks.{NameShort, unknown_in_content, unknown_end_content, one, answer_of};
@@ -122,7 +122,7 @@ impl<'a> Directory<'a> {
     fn entry(&self, j: u32) -> PartEntry
         requires told { Told self.now }
         requires within { j < length (placed (its self.now)) }
-        ensures value { (result.start ≡ (get_or (placed (its self.now)) j no_placed).start) × (result.owner ≡ (get_or (placed (its self.now)) j no_placed).owner) }
+        ensures value { (result.start ≡ (slice_index_or (placed (its self.now)) j no_placed).start) × (result.owner ≡ (slice_index_or (placed (its self.now)) j no_placed).owner) }
         ensures owner { (result.owner < length (its self.now)) × (result.owner ≤ 4096) × (j ≤ 32768) }
         ensures start { result.start ≤ length self.now.index.file.now }
     {
@@ -133,7 +133,7 @@ impl<'a> Directory<'a> {
     fn content(&self, j: u32) -> Content<'a>
         requires told { Told self.now }
         requires within { j < length (placed (its self.now)) }
-        ensures value { content_view result ≡ part (get_or (placed (its self.now)) j no_placed).part }
+        ensures value { content_view result ≡ part (slice_index_or (placed (its self.now)) j no_placed).part }
         ensures short { NameShort (content_view result) }
     {
         let entry = self.entry(j);

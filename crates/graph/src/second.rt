@@ -1,5 +1,5 @@
 // The second reading: everything that is named is there.
-ghost use Rattle.std.specs.Prelude.{◌≡◌, ◌+◌, ◌<◌, ◌≤◌, length, get_or, slice_index_or};
+ghost use Rattle.std.specs.Prelude.{◌≡◌, ◌+◌, ◌<◌, ◌≤◌, length, slice_index_or};
 ghost use Rattle.std.specs.Str.{bytes_eq};
 ghost use Rattle.records.specs.Bodies.{form_in};
 ghost use Rattle.graph.specs.Directory.{no_dependency};
@@ -25,7 +25,7 @@ impl<'a> Directory<'a> {
     fn is_named(&self, p: u32, k: u32, name: &[u8]) -> bool
         requires told { Told self.now }
         requires within { (p < length (its self.now)) × (k < length (dependencies_of (its self.now) p)) }
-        ensures { result ≡ bytes_eq (get_or (dependencies_of (its self.now) p) k no_dependency).name name.now }
+        ensures { result ≡ bytes_eq (slice_index_or (dependencies_of (its self.now) p) k no_dependency).name name.now }
     {
         match self.dependency_at(p, k) {
             Some(d) => same(d.name.bytes, name),

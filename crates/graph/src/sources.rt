@@ -1,5 +1,5 @@
 // The rows of packages.
-ghost use Rattle.std.specs.Prelude.{◌≡◌, ℕ, ◌<◌, ◌≤◌, length, get_or, slice_index_or};
+ghost use Rattle.std.specs.Prelude.{◌≡◌, ℕ, ◌<◌, ◌≤◌, length, slice_index_or};
 ghost use Rattle.std.specs.List.{flat_map};
 ghost use Rattle.records.specs.Graphs.{Feature};
 ghost use Rattle.graph.specs.Directory.{no_dependency, no_feature};
@@ -33,7 +33,7 @@ impl<'a> Directory<'a> {
         requires ends { EndsKnown (its self.now) }
         requires few { count ≤ 262145 }
         requires within { (p < length (its self.now)) × (k < length (features_of (its self.now) p)) }
-        ensures sheet { sheet words.new result ≡ lays (sheet words.old count) (flat_map (value_rows (its self.now) p (number (its self.now) (feat p k))) (get_or (features_of (its self.now) p) k no_feature).values) }
+        ensures sheet { sheet words.new result ≡ lays (sheet words.old count) (flat_map (value_rows (its self.now) p (number (its self.now) (feat p k))) (slice_index_or (features_of (its self.now) p) k no_feature).values) }
         ensures few { result ≤ 262145 }
     {
         let Some(f) = self.feature_at(p, k) else {

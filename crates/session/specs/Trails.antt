@@ -1,5 +1,5 @@
 -- Trails: the active items in the order in which they became so.
-use Rattle.std.specs.Prelude.{◌≡◌, ℕ, ◌+◌, ◌<◌, Bool, true, false, cond, ◌||◌, List, [], ◌∷◌, length, get_or, Some, None, Option, ◌==◌, ◌≢◌, slice_index_or}
+use Rattle.std.specs.Prelude.{◌≡◌, ℕ, ◌+◌, ◌<◌, Bool, true, false, cond, ◌||◌, List, [], ◌∷◌, length, Some, None, Option, ◌==◌, ◌≢◌, slice_index_or}
 use Rattle.session.specs.declared.trail.TrailRecord.{TrailRecord}
 
 -- an item is active if it is on the trail
@@ -32,10 +32,10 @@ blank = record { item = 0; first = None; second = None }
 
 -- its items are below n and differ
 abbrev pub Below : ℕ → List TrailRecord → Type 0
-Below n t = (k : ℕ) → k < length t → (get_or t k blank).item < n
+Below n t = (k : ℕ) → k < length t → (slice_index_or t k blank).item < n
 
 abbrev pub Apart : List TrailRecord → Type 0
-Apart t = (j k : ℕ) → j < k → k < length t → (get_or t j blank).item ≢ (get_or t k blank).item
+Apart t = (j k : ℕ) → j < k → k < length t → (slice_index_or t j blank).item ≢ (slice_index_or t k blank).item
 
 -- each item's mark is its trail number, or none
 abbrev pub Marked : ℕ → List TrailRecord → List (Option ℕ) → Type 0
@@ -43,7 +43,7 @@ Marked n t marks = (i : ℕ) → i < n → slice_index_or marks i None ≡ find 
 
 -- causes are older than what they caused
 abbrev pub FirstOlder : List TrailRecord → Type 0
-FirstOlder t = (k c : ℕ) → k < length t → (get_or t k blank).first ≡ Some c → c < k
+FirstOlder t = (k c : ℕ) → k < length t → (slice_index_or t k blank).first ≡ Some c → c < k
 
 abbrev pub SecondOlder : List TrailRecord → Type 0
-SecondOlder t = (k c : ℕ) → k < length t → (get_or t k blank).second ≡ Some c → c < k
+SecondOlder t = (k c : ℕ) → k < length t → (slice_index_or t k blank).second ≡ Some c → c < k
