@@ -155,12 +155,12 @@ heads-may p d ks g gs own m = (
   owners-more p ks own,
 )
 
-no_part : (x : Part) (ps : List Part) → x ∷ ps ≡ [] → ⊥
-no_part x ps e = let z : ◌≡◌ {A = ℕ} 0 1 = cc in omega arith
+no-part : (x : Part) (ps : List Part) → x ∷ ps ≡ [] → ⊥
+no-part x ps e = let z : ◌≡◌ {A = ℕ} 0 1 = cc in omega arith
 
 -- a part is owned
 some-package : (p : ℕ) (x : Part) (ps : List Part) → (p ≡ 0 → x ∷ ps ≡ []) → 0 < p
-some-package zero x ps h = absurd (no_part x ps (h refl))
+some-package zero x ps h = absurd (no-part x ps (h refl))
 some-package (suc p) x ps h = omega arith
 
 pub dependency-may : (p d : ℕ) (ks : List Key) (x : Dependency) (ps : List Part) (gs : Graph) → May p d ks (dependency x ∷ ps) gs → (0 < p) × (d < most_dependencies) × LawfulDependency x × May p (d + 1) ks ps gs

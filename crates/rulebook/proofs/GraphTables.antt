@@ -224,5 +224,5 @@ module _ (file words : List ℕ) (g : Graph) (opens : Opens file words g) (answe
   })
 
 -- with the words behind them that opening left as they were
-pub opened-table : (file words : List ℕ) (g : Graph) → Opens file words g → (answers : Answers) (ws : List ℕ) → ws ≡ over (graph_words g) words → TableOf answers g (graph_table answers ws)
-opened-table file words g opens answers ws e = subst (λ (v : List ℕ). TableOf answers g (graph_table answers v)) (sym e) (words-table file words g opens answers (drop (length (graph_words g)) words))
+pub opened-table : (file words : List ℕ) (g : Graph) → Opens file words g → (answers : Answers) (all : List ℕ) → all ≡ over (graph_words g) words → TableOf answers g (graph_table answers all)
+opened-table file words g opens answers all e = subst (λ (v : List ℕ). TableOf answers g (graph_table answers v)) (sym e) (words-table file words g opens answers (drop (length (graph_words g)) words))
