@@ -1,5 +1,5 @@
 -- What a directory tells of the graph of its file.
-use Rattle.std.specs.Prelude.{◌≡◌, ℕ, ◌+◌, ◌<◌, ◌≤◌, false, List, ◌++◌, length, drop, Ok, Err, Result, slice_index, slice_index_or}
+use Rattle.std.specs.Prelude.{◌≡◌, ℕ, ◌+◌, ◌<◌, ◌≤◌, false, List, [], ◌++◌, length, drop, Ok, Err, Result, slice_index, slice_index_or}
 use Rattle.records.specs.declared.bodies.Edge.TheVariants.{Normal}
 use Rattle.records.specs.Graphs.{Dependency, Feature, Part, dependency, feature, Graph}
 use Rattle.records.specs.Encoding.{part_bytes, encode}
@@ -31,10 +31,10 @@ abbrev pub no_part : PartEntry
 no_part = record { start = 0; owner = 0 }
 
 abbrev pub no_dependency : Dependency
-no_dependency = record { end = 0; edge = Normal; optional = false; defaults = false; name = mathlib.Core.List.[]; asks = mathlib.Core.List.[] }
+no_dependency = record { end = 0; edge = Normal; optional = false; defaults = false; name = []; asks = [] }
 
 abbrev pub no_feature : Feature
-no_feature = record { name = mathlib.Core.List.[]; values = mathlib.Core.List.[] }
+no_feature = record { name = []; values = [] }
 
 abbrev pub no_placed : Placed
 no_placed = record { number = 0; start = 0; owner = 0; part = dependency no_dependency }

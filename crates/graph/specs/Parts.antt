@@ -1,5 +1,5 @@
 -- A dependency or feature record, read again.
-use Rattle.std.specs.Prelude.{ℕ, cond, List, Some, None, Ok, Err, Option, Result, ◌==◌}
+use Rattle.std.specs.Prelude.{ℕ, cond, List, [], Some, None, Ok, Err, Option, Result, ◌==◌}
 use Rattle.records.specs.declared.faults.RecordFault.{RecordFault}
 use Rattle.records.specs.Frames.{Frame, frame_of}
 use Rattle.records.specs.Fields.{View, Field, and_then, give}
@@ -30,7 +30,7 @@ part_in bs = part_as (frame_of bs)
 -- the graph of a file; an empty one if it has none
 abbrev pub graph_or : Result (Graph × ℕ) FileFault → Graph
 graph_or (Ok p) = p.0
-graph_or (Err e) = mathlib.Core.List.[]
+graph_or (Err e) = []
 
 unfoldable pub graph_of : List ℕ → Graph
 graph_of file = graph_or (first_reading file)

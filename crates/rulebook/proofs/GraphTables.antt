@@ -2,7 +2,7 @@
 use Rattle.std.proofs.Common.{◌≡◌, ℕ, zero, suc, ◌+◌, ◌-◌, ◌*◌, ◌/◌, ◌%◌, ◌<◌, ◌≤◌, Bool, true, false, List, [], ◌∷◌, ◌++◌, length, get_or, drop, Some, None, Option, sym, refl, ap, ◌∙◌, subst, inl, inr, ⊎_elim, arith, length-append}
 use lib.Arith.{digits_mod}
 use Rattle.std.proofs.lemmas.List.{length-map, get_or-map}
-use Rattle.std.proofs.lemmas.Bool.{and_from, le-leb, cases_lt}
+use Rattle.std.proofs.lemmas.Bool.{cond-true, and_from, le-leb, cases_lt}
 use Rattle.records.specs.Graphs.{Graph}
 use Rattle.records.specs.Encoding.{bit, edge_number}
 use Rattle.records.specs.declared.bodies.Edge.{Edge}
@@ -24,7 +24,7 @@ use Rattle.rulebook.specs.Tables.{Table, Among}
 use Rattle.rulebook.specs.Watch.{watched, entry_in, rule_table}
 use Rattle.rulebook.specs.GraphTable.{is_whole, local_count, row_count, row_in, landing, row_lead, item_on, rule_to, rule_on, rule_for, graph_table}
 use Rattle.rulebook.specs.GraphRules.{Has, number_on, Leads, Watched, TableOf}
-use Rattle.rulebook.specs.RuleLaws.{cond-true, source, from-watches, mate-watches}
+use Rattle.rulebook.specs.RuleLaws.{source, from-watches, mate-watches}
 use Rattle.rulebook.specs.GraphLaws.{InRange, from_row, item-low, item-side}
 use Rattle.rulebook.proofs.ItemPlaces.{number-low, number_same, number-all, dependency-owner}
 use Rattle.rulebook.proofs.RowWords.{row_back, rows-length}

@@ -2,7 +2,7 @@
 use Rattle.std.proofs.Common.{◌≡◌, ℕ, zero, suc, ◌+◌, ◌*◌, ◌<◌, ◌≤◌, Bool, true, false, ◌&&◌, eqb, ltb, leb, List, [], ◌∷◌, ◌++◌, length, get_or, drop, Some, None, Option, sym, refl, ap, ◌∙◌, arith}
 use Rattle.std.specs.List.{flat_map}
 use Rattle.std.proofs.lemmas.List.{get_or-drop}
-use Rattle.std.proofs.lemmas.Bool.{and_from, lt-ltb, le-leb, ne_eqb}
+use Rattle.std.proofs.lemmas.Bool.{cond-true, cond-false, and_from, lt-ltb, le-leb, ne_eqb}
 use Rattle.records.specs.Encoding.{bit}
 use Rattle.graph.specs.declared.rows.Row.{Row}
 use Rattle.graph.specs.Rules.{row_words, mate_word, none, no_dependency}
@@ -10,7 +10,6 @@ use Rattle.rulebook.specs.Tables.{Among}
 use Rattle.rulebook.specs.Watch.{in_range, is_below}
 use Rattle.rulebook.specs.HouseTable.{mate_of}
 use Rattle.rulebook.specs.GraphTable.{row_at, is_row, row_read, row_in}
-use Rattle.rulebook.specs.RuleLaws.{cond-true, cond-false}
 use Rattle.rulebook.specs.GraphLaws.{InRange}
 
 -- the words from a row on begin with that row's

@@ -1,4 +1,4 @@
--- The graph book keeps the laws of tables, for any words.
+-- The graph book keeps the laws of tables, for any words. A proof, which stands here as RuleLaws does.
 use Rattle.std.specs.Prelude.{◌≡◌, ℕ, ◌+◌, ◌*◌, ◌/◌, ◌<◌, ◌≤◌, Bool, true, false, cond, ◌&&◌, List, length, Some, None, Option, nat_le, nat_lt, slice_index, refl}
 use Rattle.std.proofs.Common.{sym, ap, ◌∙◌, subst, inl, inr, arith}
 use Rattle.std.proofs.Math.Arith.{digits_div}

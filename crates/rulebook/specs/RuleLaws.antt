@@ -1,19 +1,12 @@
--- A table of rules keeps the laws of tables, if its rules name items and their premises share them.
+-- A table of rules keeps the laws of tables, if its rules name items and their premises share them. This page is a
+-- proof, which a reader need not believe: it stands here because code can import what proves a trait's law from specs/ alone.
 use Rattle.std.specs.Prelude.{◌≡◌, ℕ, ◌<◌, ◌≤◌, Bool, true, false, cond, ◌⊎◌, Some, None, Option, ◌==◌, refl}
 use Rattle.std.proofs.Common.{sym, ap, ◌∙◌, subst, inl, inr, ⊎_elim, arith}
-use Rattle.std.proofs.lemmas.Bool.{eqb-true, eq-eqb, ne_eqb, cases_eq}
+use Rattle.std.proofs.lemmas.Bool.{cond-true, cond-false, eqb-true, eq-eqb, ne_eqb, cases_eq}
 use Rattle.rulebook.specs.declared.entries.ItemRule.{ItemRule}
 use Rattle.rulebook.specs.declared.entries.Entry.{Entry}
 use Rattle.rulebook.specs.Tables.{Laws, Among, pair, most_items, most_rows}
 use Rattle.rulebook.specs.Watch.{is_item, watched, entry_in, rule_table}
-
-pub cond-true : {A : Type 0} (b : Bool) (x y : A) → b ≡ true → cond b x y ≡ x
-cond-true true x y h = refl
-cond-true false x y h = absurd (let z : ◌≡◌ {A = ℕ} 0 1 = cc in omega arith)
-
-pub cond-false : {A : Type 0} (b : Bool) (x y : A) → b ≡ false → cond b x y ≡ y
-cond-false false x y h = refl
-cond-false true x y h = absurd (let z : ◌≡◌ {A = ℕ} 0 1 = cc in omega arith)
 
 pub cond-some : {A : Type 0} (b : Bool) (o : Option A) (e : A) → cond b o None ≡ Some e → (b ≡ true) × (o ≡ Some e)
 cond-some true o e h = (refl, h)

@@ -1,4 +1,4 @@
-use Rattle.std.proofs.Common.{◌≡◌, ℕ, ◌+◌, ◌≤◌, List, length, drop, Ok, Err, Result, sym, refl, ap, ◌∙◌, subst, arith}
+use Rattle.std.proofs.Common.{◌≡◌, ℕ, ◌+◌, ◌-◌, ◌≤◌, List, length, take, drop, Ok, Err, Result, sym, refl, ap, ◌∙◌, subst, arith}
 use Rattle.std.proofs.lemmas.List.{take_rest}
 use Rattle.std.proofs.lemmas.Result.{err_from_is_err_and}
 use Rattle.std.proofs.lemmas.Bool.{cond-false, le-ltb}
@@ -82,22 +82,16 @@ loop-found-preserved c =
       ap (λ s. gathered s (scan s (drop s.start file))) e ∙ more,
     )
 
--- a record stands inside the file
-inside_file : (file : List ℕ) (st : Stand) (g : Result Gathered FileFault) → gathered st (scan st (drop st.start file)) ≡ g → (x : Found) → record_at st (drop st.start file) ≡ Ok x → st.start ≤ length file → length file ≤ most_bytes → st.start + (length x.frame.body + 6) ≤ 1048576
-inside_file file st g e x h low limit = omega (arith, next-within file st g e x h low, limit)
+-- a record that is read stands inside the file
+inside_file : (file : List ℕ) (st : Stand) (g : Result Gathered FileFault) (x : Found) → gathered st (scan st (drop st.start file)) ≡ g → Ok x ≡ record_at st (take (length file - st.start) (drop st.start file)) → st.start ≤ length file → length file ≤ most_bytes → st.start + (length x.frame.body + 6) ≤ most_bytes
+inside_file file st g x e h low limit = omega (arith, next-within file st g e x (ap (record_at st) (sym (take_rest file st.start)) ∙ sym h) low, limit)
 
 pub overflow_add-result : goal.overflow_add-result
 overflow_add-result c =
     let i = c.loop-found.index in
-    let file = c.args.index.now.file.now in
-    let st : Stand = stand_view c.loop-found.stand (keys i) in
-    let h : record_at st (drop st.start file) ≡ Ok (found_view c.in_ok-found.found) = ap (record_at st) (sym (take_rest file st.start)) ∙ sym c.in_ok-found.ensures in
-    omega (arith, inside_file file st _ c.loop-found.invariant.7 (found_view c.in_ok-found.found) h c.loop-found.invariant.0 c.if-file-gt-MAX_BYTES.false)
+    omega (arith, inside_file c.args.index.now.file.now (stand_view c.loop-found.stand (keys i)) _ (found_view c.in_ok-found.found) c.loop-found.invariant.7 c.in_ok-found.ensures c.loop-found.invariant.0 c.if-file-gt-MAX_BYTES.false)
 
 pub overflow_add-result-then-is_end : goal.overflow_add-result-then-is_end
 overflow_add-result-then-is_end c =
     let i = c.loop-found.index in
-    let file = c.args.index.now.file.now in
-    let st : Stand = stand_view c.loop-found.stand (keys i) in
-    let h : record_at st (drop st.start file) ≡ Ok (found_view c.in_ok-found.found) = ap (record_at st) (sym (take_rest file st.start)) ∙ sym c.in_ok-found.ensures in
-    omega (arith, inside_file file st _ c.loop-found.invariant.7 (found_view c.in_ok-found.found) h c.loop-found.invariant.0 c.if-file-gt-MAX_BYTES.false)
+    omega (arith, inside_file c.args.index.now.file.now (stand_view c.loop-found.stand (keys i)) _ (found_view c.in_ok-found.found) c.loop-found.invariant.7 c.in_ok-found.ensures c.loop-found.invariant.0 c.if-file-gt-MAX_BYTES.false)
