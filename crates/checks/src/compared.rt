@@ -1,37 +1,27 @@
 // Files opened by the library and by the second opener.
 use crate::opener;
-use crate::opener::Counts;
+use crate::tally::{Compare, Tally};
 use graph::opening::open_graph;
-use graph::refusals::{Refusal, refusal_of};
+use graph::refusals::Refusal;
+use graph::rows::Opened;
 use std::alloc::{AllocError, Global};
-use std::fmt;
+use std::{fmt, iter};
 
 // What the library answers.
-pub fn open(file: &[u8], words: &mut [u32]) -> Result<Counts, Refusal> {
-    match open_graph(file, words) {
-        Ok(opened) => Ok(Counts {
-            read: opened.read,
-            packages: opened.packages,
-            dependencies: opened.dependencies,
-            features: opened.features,
-            rows: opened.rows,
-        }),
-        Err(fault) => Err(refusal_of(fault)),
-    }
+pub fn open(file: &[u8], words: &mut [u32]) -> Result<Opened, Refusal> {
+    open_graph(file, words).map_err(Refusal::from)
 }
 
 // How many files were compared, how many of them differ, and how many are accepted.
-#[derive(Drop)]
-pub struct Tally {
-    compared: u64,
-    differ: u64,
+#[derive(Default, Drop)]
+pub struct FileTally {
+    files: Tally,
     accepted: u64,
 }
 
-impl fmt::Display for Tally {
+impl fmt::Display for FileTally {
     fn fmt<W: fmt::Write>(&self, f: &mut fmt::Formatter<W>) -> fmt::Result {
-        let compared = self.compared;
-        let differ = self.differ;
+        let Tally { compared, differ } = self.files;
         let accepted = self.accepted;
         write!(
             f,
@@ -42,54 +32,45 @@ impl fmt::Display for Tally {
 
 // Words that tell whether they were written.
 fn memory(heap: Global, len: usize) -> Result<Vec<u32>, AllocError> {
-    let mut words = Vec::new(heap);
-    let mut word = 0xC0FF_EE00u32;
-    for _ in 0..len {
-        words.push(word)?;
-        word = word.wrapping_add(1);
-    }
-    Ok(words)
+    iter::successors(Some(0xC0FF_EE00u32), |word| Some(word.wrapping_add(1)))
+        .take(len)
+        .collect(heap)
 }
 
-// Whether both openers answer the same in so many words and leave them the same, and what the second answers.
+// Whether both openers answer the same in so many words and leave them the same; and what the second answers, which is
+// there either way, so that the flag is no Option.
 fn agree(
     heap: Global,
     file: &[u8],
     room: usize,
-) -> Result<(bool, Result<Counts, Refusal>), AllocError> {
+) -> Result<(bool, Result<Opened, Refusal>), AllocError> {
     let mut words = memory(heap, room)?;
-    let answer = opener::open(heap, file, words.as_slice())?;
+    let mut others = words.clone()?;
     let outcome = open(file, words.as_mut_slice());
-    let same = outcome == answer.outcome && words.as_slice() == answer.words.as_slice();
-    Ok((same, answer.outcome))
+    // no `map_err`: a stop for want of memory is no refusal
+    let other = match opener::open(heap, file, others.as_mut_slice()) {
+        Ok(opened) => Ok(opened),
+        Err(stop) => Err(stop.refusal()?),
+    };
+    Ok((outcome == other && words == others, other))
 }
 
 // more words than any of the files needs
 const PLENTY: usize = 2_000;
 
-impl Tally {
-    pub fn new() -> Tally {
-        Tally {
-            compared: 0,
-            differ: 0,
-            accepted: 0,
-        }
-    }
-
-    // Compares the answers of a file with plenty of words; if it is accepted, also with just enough and with one less.
-    pub fn compare(&mut self, heap: Global, file: &[u8]) -> Result<(), AllocError> {
+impl Compare for FileTally {
+    // With plenty of words; if the file is accepted, also with just enough and with one less.
+    fn compare(&mut self, heap: Global, file: &[u8]) -> Result<(), AllocError> {
         let (mut same, outcome) = agree(heap, file, PLENTY)?;
-        if let Ok(counts) = outcome {
+        if let Ok(opened) = outcome {
             self.accepted = self.accepted.saturating_add(1);
-            let enough = (counts.rows as usize).saturating_mul(5).saturating_add(4);
-            let (with_enough, _) = agree(heap, file, enough)?;
-            let (with_less, _) = agree(heap, file, enough.saturating_sub(1))?;
-            same = same && with_enough && with_less;
+            let enough = (opened.rows as usize).saturating_mul(5).saturating_add(4);
+            for room in [enough, enough.saturating_sub(1)] {
+                let (agreed, _) = agree(heap, file, room)?;
+                same = same && agreed;
+            }
         }
-        self.compared = self.compared.saturating_add(1);
-        if !same {
-            self.differ = self.differ.saturating_add(1);
-        }
+        self.files.note(same);
         Ok(())
     }
 }

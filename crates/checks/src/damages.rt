@@ -1,7 +1,7 @@
 // Damaged copies of the example, with the refusals that the rules give them.
 use crate::compared::open;
 use crate::encode::feature_record;
-use crate::example::{RECORDS, example, joined};
+use crate::example::{RECORDS, example, joined, put};
 use graph::refusals::Refusal;
 use std::alloc::{AllocError, Global};
 use std::process::Abort;
@@ -10,7 +10,7 @@ use std::test::Fail;
 // A change of the byte at a place.
 type Change = (usize, u8);
 
-fn refused(number: u32, record: usize, start: usize, field: usize, prefix: usize) -> Refusal {
+pub fn refused(number: u32, record: usize, start: usize, field: usize, prefix: usize) -> Refusal {
     Refusal {
         number,
         record,
@@ -29,9 +29,7 @@ fn check_refused(rt: &impl Abort, file: &[u8], refusal: Refusal) {
 fn changed(heap: Global, changes: &[Change]) -> Result<Vec<u8>, AllocError> {
     let mut file = example(heap)?;
     for (at, byte) in changes {
-        if let Some(b) = file.get_mut(*at) {
-            *b = *byte;
-        }
+        put(file.as_mut_slice(), *at, *byte);
     }
     Ok(file)
 }
@@ -182,11 +180,11 @@ fn orders(rt: HostRuntime) -> Result<(), Fail> {
 
 // The example with another record in the place of one.
 fn replaced(heap: Global, number: usize, other: &[u8]) -> Result<Vec<u8>, AllocError> {
-    let mut file = Vec::new(heap);
-    for (i, record) in RECORDS.iter().enumerate() {
-        file.extend_from_slice(if i == number { other } else { record })?;
+    let mut records = RECORDS;
+    if let Some(record) = records.get_mut(number) {
+        *record = other;
     }
-    Ok(file)
+    records.concat(heap)
 }
 
 #[test]
@@ -197,8 +195,7 @@ fn other_features(rt: HostRuntime) -> Result<(), Fail> {
         (8, b"std", b"std", refused(6, 8, 122, 7, 0)),
     ];
     for (number, name, value, refusal) in table {
-        let values = [Vec::from_slice(rt.alloc(), value)?];
-        let other = feature_record(rt.alloc(), name, &values)?;
+        let other = feature_record(rt.alloc(), name, &[value])?;
         check_refused(
             &rt,
             replaced(rt.alloc(), number, other.as_slice())?.as_slice(),

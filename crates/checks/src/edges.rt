@@ -1,5 +1,9 @@
 // Strings at the edges of the grammar, with the answers that it gives them.
-use crate::answers::{Answer, Span, of_name, of_string};
+use std::process::Abort;
+use text::faults::StringFault;
+use text::names::read_name;
+use text::parts::{FeatureString, Part};
+use text::strings::read_feature_string;
 
 const LETTERS_64: &[u8] = b"aaaaaaaaaaaaaaaaaaaaaaaaaaaaaaaaaaaaaaaaaaaaaaaaaaaaaaaaaaaaaaaa";
 
@@ -13,39 +17,66 @@ const STRONG_65: &[u8] = b"n/aaaaaaaaaaaaaaaaaaaaaaaaaaaaaaaaaaaaaaaaaaaaaaaaaaa
 
 const WEAK_64: &[u8] = b"aaaaaaaaaaaaaaaaaaaaaaaaaaaaaaaaaaaaaaaaaaaaaaaaaaaaaaaaaaaaaaaa?/g";
 
-fn plain(len: usize) -> Answer {
-    Answer::Plain(Span { at: 0, len })
+// A string, and its form.
+type Row<'a> = (&'a [u8], FeatureString<'a>);
+
+// So many bytes of a string, from a place on.
+fn part<'a>(text: &'a [u8], at: usize, len: usize) -> Part<'a> {
+    let bytes = text.get(at..at.saturating_add(len)).unwrap_or(&[]);
+    Part { at, bytes }
 }
 
-fn strong(cut: usize, at: usize, len: usize) -> Answer {
-    Answer::Strong(Span { at: 0, len: cut }, Span { at, len })
+fn plain<'a>(text: &'a [u8], len: usize) -> Row<'a> {
+    let feature = part(text, 0, len);
+    (text, FeatureString::Plain { feature })
 }
 
-fn weak(cut: usize, at: usize, len: usize) -> Answer {
-    Answer::Weak(Span { at: 0, len: cut }, Span { at, len })
+fn switch<'a>(text: &'a [u8], len: usize) -> Row<'a> {
+    let dependency = part(text, 4, len);
+    (text, FeatureString::Switch { dependency })
 }
 
-fn switch(len: usize) -> Answer {
-    Answer::Switch(Span { at: 4, len })
+fn strong<'a>(text: &'a [u8], cut: usize, at: usize, len: usize) -> Row<'a> {
+    let dependency = part(text, 0, cut);
+    let feature = part(text, at, len);
+    (
+        text,
+        FeatureString::Strong {
+            dependency,
+            feature,
+        },
+    )
+}
+
+fn weak<'a>(text: &'a [u8], cut: usize, at: usize, len: usize) -> Row<'a> {
+    let dependency = part(text, 0, cut);
+    let feature = part(text, at, len);
+    (
+        text,
+        FeatureString::Weak {
+            dependency,
+            feature,
+        },
+    )
 }
 
 #[test]
 fn forms(rt: HostRuntime) {
-    let table: [(&[u8], Answer); 11] = [
-        (b"a", plain(1)),
-        (b"dep", plain(3)),
-        (b"de", plain(2)),
-        (b"dep/x", strong(3, 4, 1)),
-        (b"dep?/x", weak(3, 5, 1)),
-        (b"dep:x", switch(1)),
-        (b"dep:dep", switch(3)),
-        (b"9.+-/_-", strong(4, 5, 2)),
-        (LETTERS_64, plain(64)),
-        (DEP_64, switch(64)),
-        (WEAK_64, weak(64, 66, 1)),
+    let table = [
+        plain(b"a", 1),
+        plain(b"dep", 3),
+        plain(b"de", 2),
+        strong(b"dep/x", 3, 4, 1),
+        weak(b"dep?/x", 3, 5, 1),
+        switch(b"dep:x", 1),
+        switch(b"dep:dep", 3),
+        strong(b"9.+-/_-", 4, 5, 2),
+        plain(LETTERS_64, 64),
+        switch(DEP_64, 64),
+        weak(WEAK_64, 64, 66, 1),
     ];
-    for (text, answer) in table {
-        assert_eq!(rt; of_string(text), answer);
+    for (text, form) in table {
+        assert_eq!(rt; read_feature_string(text), Ok(form));
     }
 }
 
@@ -70,8 +101,11 @@ fn refusals(rt: HostRuntime) {
         (DEP_65, 68),
         (STRONG_65, 66),
     ];
-    for (text, place) in table {
-        assert_eq!(rt; of_string(text), Answer::NoForm(place));
+    for (text, prefix) in table {
+        assert_eq!(rt;
+            read_feature_string(text),
+            Err(StringFault::NoForm { prefix })
+        );
     }
 }
 
@@ -95,33 +129,46 @@ fn bytes(rt: HostRuntime) {
         (0xFF, Some(0), Some(1)),
     ];
     for (byte, alone, after) in table {
-        assert_eq!(rt; of_string(&[byte]), answer(alone, 1));
-        assert_eq!(rt; of_string(&[b'a', byte]), answer(after, 2));
+        check(&rt, &[byte], alone);
+        check(&rt, &[b'a', byte], after);
     }
 }
 
-fn answer(refused: Option<usize>, len: usize) -> Answer {
-    match refused {
-        Some(place) => Answer::NoForm(place),
-        None => plain(len),
-    }
+// Whether a string is refused at that place, or else is the name of a feature.
+fn check(rt: &impl Abort, text: &[u8], refused: Option<usize>) {
+    let answer = match refused {
+        Some(prefix) => Err(StringFault::NoForm { prefix }),
+        None => Ok(plain(text, text.len()).1),
+    };
+    assert_eq!(rt; read_feature_string(text), answer);
+}
+
+// A string, and what is answered of it as a name.
+type NameRow<'a> = (&'a [u8], Result<Part<'a>, StringFault>);
+
+fn no_name<'a>(text: &'a [u8], prefix: usize) -> NameRow<'a> {
+    (text, Err(StringFault::NoName { prefix }))
+}
+
+fn name<'a>(text: &'a [u8], len: usize) -> NameRow<'a> {
+    (text, Ok(part(text, 0, len)))
 }
 
 #[test]
 fn names(rt: HostRuntime) {
-    let table: [(&[u8], Answer); 10] = [
-        (b"", Answer::NoName(0)),
-        (b"-a", Answer::NoName(0)),
-        (b"a/b", Answer::NoName(1)),
-        (b"a?", Answer::NoName(1)),
-        (b"dep:a", Answer::NoName(3)),
-        (b"a\xFF", Answer::NoName(1)),
-        (LETTERS_65, Answer::NoName(64)),
-        (LETTERS_64, plain(64)),
-        (b"0", plain(1)),
-        (b"_-+.", plain(4)),
+    let table = [
+        no_name(b"", 0),
+        no_name(b"-a", 0),
+        no_name(b"a/b", 1),
+        no_name(b"a?", 1),
+        no_name(b"dep:a", 3),
+        no_name(b"a\xFF", 1),
+        no_name(LETTERS_65, 64),
+        name(LETTERS_64, 64),
+        name(b"0", 1),
+        name(b"_-+.", 4),
     ];
     for (text, answer) in table {
-        assert_eq!(rt; of_name(text), answer);
+        assert_eq!(rt; read_name(text), answer);
     }
 }

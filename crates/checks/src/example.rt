@@ -30,18 +30,30 @@ pub const RECORDS: [&[u8]; 12] = [
 
 // The records with these numbers, one after the other.
 pub fn joined(heap: Global, numbers: &[usize]) -> Result<Vec<u8>, AllocError> {
-    let mut file = Vec::new(heap);
-    for number in numbers {
-        if let Some(record) = RECORDS.get(*number) {
-            file.extend_from_slice(record)?;
-        }
-    }
-    Ok(file)
+    let records: Vec<&[u8]> = numbers
+        .iter()
+        .filter_map(|number| RECORDS.get(*number).copied())
+        .collect(heap)?;
+    records.concat(heap)
 }
 
 pub const ALL: [usize; 12] = [0, 1, 2, 3, 4, 5, 6, 7, 8, 9, 10, 11];
 
 // The file of 173 bytes.
 pub fn example(heap: Global) -> Result<Vec<u8>, AllocError> {
-    joined(heap, &ALL)
+    RECORDS.concat(heap)
+}
+
+// Writes a byte at a place, if the file has it.
+pub fn put(file: &mut [u8], at: usize, byte: u8) {
+    if let Some(b) = file.get_mut(at) {
+        *b = byte;
+    }
+}
+
+// The file with another byte at a place.
+pub fn with_byte(heap: Global, file: &[u8], at: usize, byte: u8) -> Result<Vec<u8>, AllocError> {
+    let mut changed = Vec::from_slice(heap, file)?;
+    put(changed.as_mut_slice(), at, byte);
+    Ok(changed)
 }

@@ -1,19 +1,21 @@
 // Files at the limits: the last that is accepted, and the first that is refused.
 use crate::compared::open;
+use crate::damages;
 use crate::encode::{
     EdgeHead, dependency_record, end_record, feature_record, header, package_record,
 };
 use crate::example::example;
-use crate::opener::Counts;
+use crate::kinds::EdgeKind;
 use graph::refusals::Refusal;
+use graph::rows::Opened;
 use std::alloc::{AllocError, Global};
 use std::process::Abort;
 use std::test::Fail;
 
-type Outcome = Result<Counts, Refusal>;
+type Outcome = Result<Opened, Refusal>;
 
 fn accepted(read: usize, packages: u32, dependencies: u32, features: u32, rows: u32) -> Outcome {
-    Ok(Counts {
+    Ok(Opened {
         read,
         packages,
         dependencies,
@@ -23,13 +25,7 @@ fn accepted(read: usize, packages: u32, dependencies: u32, features: u32, rows: 
 }
 
 fn refused(number: u32, record: usize, start: usize) -> Outcome {
-    Err(Refusal {
-        number,
-        record,
-        start,
-        field: 0,
-        prefix: 0,
-    })
+    Err(damages::refused(number, record, start, 0, 0))
 }
 
 fn check_opens(
@@ -70,16 +66,17 @@ fn bytes(rt: HostRuntime) -> Result<(), Fail> {
 
 // A header, so many packages `a`, the other records, and an end.
 fn file_of(heap: Global, packages: usize, others: &[u8]) -> Result<Vec<u8>, AllocError> {
-    let mut file = header(heap)?;
-    let package = package_record(heap, false, b"a")?;
-    for _ in 0..packages {
-        file.extend_from_slice(package.as_slice())?;
-    }
-    file.extend_from_slice(others)?;
-    file.extend_from_slice(end_record(heap)?.as_slice())?;
-    Ok(file)
+    let packages = package_record(heap, false, b"a")?.repeat(heap, packages)?;
+    [
+        header(heap)?.as_slice(),
+        packages.as_slice(),
+        others,
+        end_record(heap)?.as_slice(),
+    ]
+    .concat(heap)
 }
 
+// One function for this test and the next two would take six figures and both lists, and be two calls.
 #[test]
 fn packages(rt: HostRuntime) -> Result<(), Fail> {
     let heap = rt.alloc();
@@ -104,17 +101,12 @@ fn dependencies_of(
 ) -> Result<Vec<u8>, AllocError> {
     let head = EdgeHead {
         end: 0,
-        kind: 0,
+        kind: EdgeKind::Normal,
         optional,
         defaults: false,
     };
-    let no_asks = Vec::new(heap);
-    let record = dependency_record(heap, head, name, no_asks.as_slice())?;
-    let mut records = Vec::new(heap);
-    for _ in 0..count {
-        records.extend_from_slice(record.as_slice())?;
-    }
-    Ok(records)
+    let no_asks: [&[u8]; 0] = [];
+    dependency_record(heap, head, name, &no_asks)?.repeat(heap, count)
 }
 
 #[test]
@@ -149,11 +141,11 @@ fn dependencies(rt: HostRuntime) -> Result<(), Fail> {
 
 // Features `f00000`, `f00001` and so on, without values.
 fn features_of(heap: Global, count: usize) -> Result<Vec<u8>, AllocError> {
-    let no_values = Vec::new(heap);
+    let no_values: [&[u8]; 0] = [];
     let mut records = Vec::new(heap);
     for i in 0..count {
         let name = format!(in heap; "f{i:05}")?;
-        let record = feature_record(heap, name.as_bytes(), no_values.as_slice())?;
+        let record = feature_record(heap, name.as_bytes(), &no_values)?;
         records.extend_from_slice(record.as_slice())?;
     }
     Ok(records)
@@ -178,18 +170,13 @@ fn features(rt: HostRuntime) -> Result<(), Fail> {
 #[test]
 fn rows(rt: HostRuntime) -> Result<(), Fail> {
     let heap = rt.alloc();
-    let mut values = Vec::new(heap);
-    for _ in 0..255 {
-        values.push(Vec::from_slice(heap, b"dep:a")?)?;
-    }
     let mut records = dependencies_of(heap, 1_024, b"a", true)?;
-    records.extend_from_slice(feature_record(heap, b"f", values.as_slice())?.as_slice())?;
+    records.extend_from_slice(feature_record(heap, b"f", &[b"dep:a"; 255])?.as_slice())?;
     let most = file_of(heap, 1, records.as_slice())?;
     let outcome = accepted(15_898, 1, 1_024, 1, 262_144);
     check_opens(&rt, heap, most.as_slice(), 1_310_724, outcome)?;
     check_opens(&rt, heap, most.as_slice(), 1_310_723, refused(9, 0, 0))?;
-    let one = [Vec::from_slice(heap, b"g")?];
-    records.extend_from_slice(feature_record(heap, b"g", &one)?.as_slice())?;
+    records.extend_from_slice(feature_record(heap, b"g", &[b"g"])?.as_slice())?;
     let more = file_of(heap, 1, records.as_slice())?;
     check_opens(&rt, heap, more.as_slice(), 0, refused(8, 0, 0))
 }

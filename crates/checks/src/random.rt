@@ -1,10 +1,11 @@
 // Random graphs as files.
-use crate::compared::Tally;
 use crate::dice::Dice;
 use crate::encode::{
     EdgeHead, dependency_record, end_record, feature_record, header, package_record,
 };
-use crate::sketches::{Drawn, Sketch, name_of};
+use crate::example::put;
+use crate::kinds::EdgeKind;
+use crate::sketches::{Care, Drawn, Sketch, name_of};
 use std::alloc::{AllocError, Global};
 
 // A value in one of the four forms; a plain one where there is nothing to link to.
@@ -15,6 +16,7 @@ fn draw_value(
     edges: &[Drawn],
 ) -> Result<Vec<u8>, AllocError> {
     let heap = sketch.heap;
+    // a number of the die, as an enum would be made from it by the same match
     let form = sketch.dice.below(4);
     let link = sketch.choose_link(edges)?;
     match (form, link) {
@@ -31,28 +33,27 @@ fn draw_feature(
     own: usize,
     edges: &[Drawn],
 ) -> Result<Vec<u8>, AllocError> {
-    let mut values = Vec::new(sketch.heap);
-    for _ in 0..sketch.dice.below(4) {
-        values.push(draw_value(sketch, names, own, edges)?)?;
-    }
-    feature_record(sketch.heap, name_of(own), values.as_slice())
+    let heap = sketch.heap;
+    let values: Vec<Vec<u8>> = (0..sketch.dice.below(4))
+        .map(|_| draw_value(sketch, names, own, edges))
+        .try_collect(heap)?;
+    feature_record(heap, name_of(own), values.as_slice())
 }
 
 fn draw_dependency(sketch: &mut Sketch, edge: Drawn) -> Result<Vec<u8>, AllocError> {
+    let heap = sketch.heap;
     let head = EdgeHead {
         end: u16::try_from(edge.end).unwrap_or(u16::MAX),
-        kind: u8::try_from(sketch.dice.below(3)).unwrap_or(0),
+        kind: EdgeKind::ALL[sketch.dice.below(3)],
         optional: sketch.dice.coin(),
         defaults: sketch.dice.coin(),
     };
     let names = sketch.features_of(edge.end)?;
-    let mut asks = Vec::new(sketch.heap);
-    for _ in 0..sketch.dice.below(3) {
-        if let Some(ask) = sketch.choose(names.as_slice()) {
-            asks.push(Vec::from_slice(sketch.heap, name_of(ask))?)?;
-        }
-    }
-    dependency_record(sketch.heap, head, name_of(edge.name), asks.as_slice())
+    let asks: Vec<&[u8]> = (0..sketch.dice.below(3))
+        .filter_map(|_| sketch.choose(names.as_slice()))
+        .map(name_of)
+        .collect(heap)?;
+    dependency_record(heap, head, name_of(edge.name), asks.as_slice())
 }
 
 // The records of both lists, each list in order.
@@ -62,24 +63,16 @@ fn add_mixed(
     first: &[Vec<u8>],
     second: &[Vec<u8>],
 ) -> Result<(), AllocError> {
-    let mut i = 0usize;
-    let mut j = 0usize;
+    let mut first = first.iter();
+    let mut second = second.iter();
     for _ in 0..first.len().saturating_add(second.len()) {
-        let from_first = dice.coin();
-        match (first.get(i), second.get(j)) {
-            (Some(record), None) => {
-                file.extend_from_slice(record.as_slice())?;
-                i = i.saturating_add(1);
-            }
-            (Some(record), Some(_)) if from_first => {
-                file.extend_from_slice(record.as_slice())?;
-                i = i.saturating_add(1);
-            }
-            (_, Some(record)) => {
-                file.extend_from_slice(record.as_slice())?;
-                j = j.saturating_add(1);
-            }
-            (None, None) => {}
+        let record = if dice.coin() {
+            first.next().or_else(|| second.next())
+        } else {
+            second.next().or_else(|| first.next())
+        };
+        if let Some(record) = record {
+            file.extend_from_slice(record.as_slice())?;
         }
     }
     Ok(())
@@ -87,19 +80,20 @@ fn add_mixed(
 
 // A package record, and the records of what the package owns.
 fn add_package(sketch: &mut Sketch, file: &mut Vec<u8>, package: usize) -> Result<(), AllocError> {
+    let heap = sketch.heap;
     let proc_mark = sketch.dice.coin();
     let name = name_of(sketch.dice.below(7));
-    file.extend_from_slice(package_record(sketch.heap, proc_mark, name)?.as_slice())?;
+    file.extend_from_slice(package_record(heap, proc_mark, name)?.as_slice())?;
     let names = sketch.features_of(package)?;
     let edges = sketch.draw_edges()?;
-    let mut dependencies = Vec::new(sketch.heap);
-    for edge in edges.iter() {
-        dependencies.push(draw_dependency(sketch, *edge)?)?;
-    }
-    let mut features = Vec::new(sketch.heap);
-    for own in names.iter() {
-        features.push(draw_feature(sketch, names.as_slice(), *own, edges.as_slice())?)?;
-    }
+    let dependencies: Vec<Vec<u8>> = edges
+        .iter()
+        .map(|edge| draw_dependency(sketch, *edge))
+        .try_collect(heap)?;
+    let features: Vec<Vec<u8>> = names
+        .iter()
+        .map(|own| draw_feature(sketch, names.as_slice(), *own, edges.as_slice()))
+        .try_collect(heap)?;
     add_mixed(
         &mut sketch.dice,
         file,
@@ -109,8 +103,8 @@ fn add_package(sketch: &mut Sketch, file: &mut Vec<u8>, package: usize) -> Resul
 }
 
 // The file of a random graph, sometimes with bytes behind it.
-pub fn draw_file(heap: Global, seed: u64, careful: bool) -> Result<Vec<u8>, AllocError> {
-    let mut sketch = Sketch::new(heap, seed, careful)?;
+pub fn draw_file(heap: Global, seed: u64, care: Care) -> Result<Vec<u8>, AllocError> {
+    let mut sketch = Sketch::new(heap, seed, care)?;
     let mut file = header(heap)?;
     for package in 0..sketch.packages() {
         add_package(&mut sketch, &mut file, package)?;
@@ -120,24 +114,6 @@ pub fn draw_file(heap: Global, seed: u64, careful: bool) -> Result<Vec<u8>, Allo
         file.extend_from_slice(b"and so on")?;
     }
     Ok(file)
-}
-
-// Lawful graphs.
-pub fn compare_lawful(heap: Global) -> Result<Tally, AllocError> {
-    let mut tally = Tally::new();
-    for seed in 0..600 {
-        tally.compare(heap, draw_file(heap, seed, true)?.as_slice())?;
-    }
-    Ok(tally)
-}
-
-// Graphs with a few names and references taken at will.
-pub fn compare_careless(heap: Global) -> Result<Tally, AllocError> {
-    let mut tally = Tally::new();
-    for seed in 0..600 {
-        tally.compare(heap, draw_file(heap, seed, false)?.as_slice())?;
-    }
-    Ok(tally)
 }
 
 // A byte that says much in some field, or any.
@@ -152,20 +128,9 @@ fn telling_byte(dice: &mut Dice) -> u8 {
 
 // A lawful graph with one byte changed.
 pub fn draw_changed(heap: Global, seed: u64) -> Result<Vec<u8>, AllocError> {
-    let mut file = draw_file(heap, seed, true)?;
+    let mut file = draw_file(heap, seed, Care::Careful)?;
     let mut dice = Dice::new(seed);
     let at = dice.below(file.len().max(1));
-    let byte = telling_byte(&mut dice);
-    if let Some(b) = file.get_mut(at) {
-        *b = byte;
-    }
+    put(file.as_mut_slice(), at, telling_byte(&mut dice));
     Ok(file)
-}
-
-pub fn compare_changed(heap: Global) -> Result<Tally, AllocError> {
-    let mut tally = Tally::new();
-    for seed in 0..2_000 {
-        tally.compare(heap, draw_changed(heap, seed)?.as_slice())?;
-    }
-    Ok(tally)
 }

@@ -1,122 +1,96 @@
 // A second computation of what the readers answer: a string is taken apart at its first separator,
 // and the place of a refusal is found by completing each prefix and trying again.
-use crate::answers::{Answer, Span};
 use std::alloc::{AllocError, Global};
+use text::faults::StringFault;
+use text::parts::{FeatureString, Part};
 
 fn is_name(text: &[u8]) -> bool {
-    let Some(first) = text.first() else {
-        return false;
-    };
-    for b in text {
-        if !(b.is_ascii_alphanumeric() || b"_-+.".contains(b)) {
-            return false;
-        }
-    }
-    !b"-+.".contains(first) && text.len() <= 64
+    text.len() <= 64
+        && text.first().is_some_and(|b| !b"-+.".contains(b))
+        && text
+            .iter()
+            .all(|b| b.is_ascii_alphanumeric() || b"_-+.".contains(b))
 }
 
-// The text before and after the first slash.
-fn at_slash(text: &[u8]) -> Option<(&[u8], &[u8])> {
-    for (i, b) in text.iter().enumerate() {
-        if *b == b'/' {
-            return Some((&text[0..i], &text[i + 1..]));
-        }
-    }
-    None
+// The bytes at a place of a string as a part of it, if they are a name.
+fn name_at<'a>(at: usize, bytes: &'a [u8]) -> Option<Part<'a>> {
+    is_name(bytes).then_some(Part { at, bytes })
 }
 
-fn is_plain(text: &[u8]) -> Option<Answer> {
-    if is_name(text) {
-        Some(Answer::Plain(Span {
-            at: 0,
-            len: text.len(),
-        }))
-    } else {
-        None
+// The form of two names with a slash between them.
+fn joined<'a>(before: &'a [u8], after: &'a [u8]) -> Option<FeatureString<'a>> {
+    let feature = name_at(before.len().saturating_add(1), after)?;
+    match before.strip_suffix(b"?") {
+        Some(name) => Some(FeatureString::Weak {
+            dependency: name_at(0, name)?,
+            feature,
+        }),
+        None => Some(FeatureString::Strong {
+            dependency: name_at(0, before)?,
+            feature,
+        }),
     }
 }
 
-fn is_joined(before: &[u8], after: &[u8]) -> Option<Answer> {
-    let at = before.len().saturating_add(1);
-    let second = Span {
-        at,
-        len: after.len(),
-    };
-    if !is_name(after) {
-        return None;
-    }
-    match before {
-        [name @ .., b'?'] if is_name(name) => Some(Answer::Weak(
-            Span {
-                at: 0,
-                len: name.len(),
-            },
-            second,
-        )),
-        name if is_name(name) => Some(Answer::Strong(
-            Span {
-                at: 0,
-                len: name.len(),
-            },
-            second,
-        )),
-        _ => None,
-    }
-}
-
-fn is_lawful(text: &[u8]) -> Option<Answer> {
+// The form of a lawful string.
+fn form<'a>(text: &'a [u8]) -> Option<FeatureString<'a>> {
     if let Some(name) = text.strip_prefix(b"dep:") {
-        return if is_name(name) {
-            Some(Answer::Switch(Span {
-                at: 4,
-                len: name.len(),
-            }))
-        } else {
-            None
-        };
+        return Some(FeatureString::Switch {
+            dependency: name_at(4, name)?,
+        });
     }
-    match at_slash(text) {
-        Some((before, after)) => is_joined(before, after),
-        None => is_plain(text),
+    match text.iter().position(|b| *b == b'/') {
+        Some(slash) => joined(&text[..slash], &text[slash + 1..]),
+        None => Some(FeatureString::Plain {
+            feature: name_at(0, text)?,
+        }),
     }
 }
 
 // Whether the text with one of these completions is lawful.
 fn completes(heap: Global, text: &[u8]) -> Result<bool, AllocError> {
-    for more in [&b""[..], &b"a"[..], &b"/a"[..]] {
-        let mut whole = Vec::from_slice(heap, text)?;
-        whole.extend_from_slice(more)?;
-        if is_lawful(whole.as_slice()).is_some() {
+    // no `any`: completing allocates, and its closure could not fail
+    for more in [&b""[..], b"a", b"/a"] {
+        if form([text, more].concat(heap)?.as_slice()).is_some() {
             return Ok(true);
         }
     }
     Ok(false)
 }
 
-// What is to be answered of a feature string.
-pub fn of_string(heap: Global, text: &[u8]) -> Result<Answer, AllocError> {
-    if let Some(answer) = is_lawful(text) {
-        return Ok(answer);
-    }
-    let mut place = 0;
-    for k in 0..text.len() + 1 {
-        if completes(heap, &text[0..k])? {
-            place = k;
+// The length of the longest prefix that begins some lawful string.
+fn longest_begun(heap: Global, text: &[u8]) -> Result<usize, AllocError> {
+    // no `find`, for the same reason
+    for len in (0..=text.len()).rev() {
+        if completes(heap, &text[..len])? {
+            return Ok(len);
         }
     }
-    Ok(Answer::NoForm(place))
+    Ok(0)
+}
+
+// What is to be answered of a feature string. The outer result is that of the program's own memory;
+// the inner one is compared as a value, so that one error for both would be taken apart again.
+pub fn of_string<'a>(
+    heap: Global,
+    text: &'a [u8],
+) -> Result<Result<FeatureString<'a>, StringFault>, AllocError> {
+    match form(text) {
+        Some(form) => Ok(Ok(form)),
+        None => {
+            let prefix = longest_begun(heap, text)?;
+            Ok(Err(StringFault::NoForm { prefix }))
+        }
+    }
 }
 
 // What is to be answered of a name.
-pub fn of_name(heap: Global, text: &[u8]) -> Result<Answer, AllocError> {
-    if let Some(answer) = is_plain(text) {
-        return Ok(answer);
-    }
-    let mut place = 0;
-    for k in 0..text.len() + 1 {
-        if is_name(&text[0..k]) {
-            place = k;
-        }
-    }
-    Ok(Answer::NoName(place))
+pub fn of_name<'a>(text: &'a [u8]) -> Result<Part<'a>, StringFault> {
+    name_at(0, text).ok_or_else(|| {
+        let prefix = (0..=text.len())
+            .rev()
+            .find(|len| text.get(..*len).is_some_and(is_name))
+            .unwrap_or(0);
+        StringFault::NoName { prefix }
+    })
 }

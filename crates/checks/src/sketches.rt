@@ -23,28 +23,37 @@ pub struct Drawn {
     pub end: usize,
 }
 
-// A graph while it is drawn. A careful one is lawful; else a few of its references and names are taken at will.
+// How a graph is drawn.
+#[derive(Clone, Copy, PartialEq, Eq)]
+pub enum Care {
+    // it is lawful
+    Careful,
+    // a few of its references and names are taken at will
+    Careless,
+}
+
+// A graph while it is drawn.
 #[derive(Drop)]
 pub struct Sketch {
     pub heap: Global,
     pub dice: Dice,
-    careful: bool,
+    care: Care,
     // the features of each package, by name
     features: Vec<Vec<usize>>,
 }
 
 impl Sketch {
-    pub fn new(heap: Global, seed: u64, careful: bool) -> Result<Sketch, AllocError> {
+    pub fn new(heap: Global, seed: u64, care: Care) -> Result<Sketch, AllocError> {
         let mut sketch = Sketch {
             heap,
             dice: Dice::new(seed),
-            careful,
+            care,
             features: Vec::new(heap),
         };
-        for _ in 0..sketch.dice.below(4) + 1 {
-            let names = sketch.draw_names()?;
-            sketch.features.push(names)?;
-        }
+        let packages = sketch.dice.below(4) + 1;
+        sketch.features = (0..packages)
+            .map(|_| sketch.draw_names())
+            .try_collect(heap)?;
         Ok(sketch)
     }
 
@@ -54,14 +63,15 @@ impl Sketch {
 
     // The features of a package.
     pub fn features_of(&self, package: usize) -> Result<Vec<usize>, AllocError> {
-        match self.features.as_slice().get(package) {
+        // no `map_or`: the copy may run out of memory
+        match self.features.get(package) {
             Some(names) => names.clone(),
             None => Ok(Vec::new(self.heap)),
         }
     }
 
     fn slips(&mut self) -> bool {
-        !self.careful && self.dice.below(12) == 0
+        self.care == Care::Careless && self.dice.below(12) == 0
     }
 
     // One of the names, or any at all.
@@ -74,13 +84,13 @@ impl Sketch {
 
     // About half of the names, from some name on.
     fn draw_names(&mut self) -> Result<Vec<usize>, AllocError> {
-        let mut names = Vec::new(self.heap);
         let first = self.dice.below(7);
-        for i in 0..7 {
-            if self.dice.coin() {
-                names.push((first + i) % 7)?;
-            }
-        }
+        let mut names: Vec<usize> = (0..7)
+            .cycle()
+            .skip(first)
+            .take(7)
+            .filter(|_| self.dice.coin())
+            .collect(self.heap)?;
         if let Some(again) = self.dice.pick(names.as_slice()) {
             if self.slips() {
                 names.push(again)?;
@@ -89,44 +99,41 @@ impl Sketch {
         Ok(names)
     }
 
+    fn draw_edge(&mut self) -> Drawn {
+        let ends = self.features.len().max(1);
+        let end = self.dice.below(ends);
+        Drawn {
+            name: self.dice.below(3) + 3,
+            end: if self.slips() { end + 1 } else { end },
+        }
+    }
+
     // A few dependencies of one package, of which some have the same name.
     pub fn draw_edges(&mut self) -> Result<Vec<Drawn>, AllocError> {
-        let mut edges = Vec::new(self.heap);
-        for _ in 0..self.dice.below(5) {
-            let ends = self.features.len().max(1);
-            let end = self.dice.below(ends);
-            edges.push(Drawn {
-                name: self.dice.below(3) + 3,
-                end: if self.slips() { end + 1 } else { end },
-            })?;
-        }
-        Ok(edges)
+        let heap = self.heap;
+        (0..self.dice.below(5))
+            .map(|_| self.draw_edge())
+            .collect(heap)
     }
 
     fn has(&self, package: usize, name: usize) -> bool {
-        match self.features.as_slice().get(package) {
-            Some(names) => names.as_slice().contains(&name),
-            None => false,
-        }
+        self.features
+            .get(package)
+            .is_some_and(|names| names.contains(&name))
     }
 
     fn every_end_has(&self, edges: &[Drawn], name: usize, feature: usize) -> bool {
-        for edge in edges {
-            if edge.name == name && !self.has(edge.end, feature) {
-                return false;
-            }
-        }
-        true
+        edges
+            .iter()
+            .filter(|edge| edge.name == name)
+            .all(|edge| self.has(edge.end, feature))
     }
 
     // A feature of every end of the dependencies of that name.
     fn choose_common(&mut self, edges: &[Drawn], name: usize) -> Result<Option<usize>, AllocError> {
-        let mut names = Vec::new(self.heap);
-        for feature in 0..7 {
-            if self.every_end_has(edges, name, feature) {
-                names.push(feature)?;
-            }
-        }
+        let names: Vec<usize> = (0..7)
+            .filter(|feature| self.every_end_has(edges, name, *feature))
+            .collect(self.heap)?;
         Ok(self.choose(names.as_slice()))
     }
 
@@ -135,10 +142,8 @@ impl Sketch {
         &mut self,
         edges: &[Drawn],
     ) -> Result<Option<(usize, Option<usize>)>, AllocError> {
-        let mut names = Vec::new(self.heap);
-        for edge in edges {
-            names.push(edge.name)?;
-        }
+        let names: Vec<usize> = edges.iter().map(|edge| edge.name).collect(self.heap)?;
+        // no `map`: the choice in it may run out of memory
         match self.choose(names.as_slice()) {
             Some(name) => Ok(Some((name, self.choose_common(edges, name)?))),
             None => Ok(None),

@@ -3,7 +3,7 @@ ghost use Rattle.std.specs.Prelude.{◌≡◌};
 ghost use Rattle.demo.specs.Lines.{premise, place};
 
 use graph::refusals::Refusal;
-use graph::rows::Opened;
+use graph::rows::{Opened, mate_of};
 use std::fmt;
 
 // What an opened graph has.
@@ -29,21 +29,19 @@ impl fmt::Display for Counts {
     }
 }
 
-// the word of a row without a second premise
-const NONE: u32 = 4_294_967_295;
-
 // The second premise of a row, if it has one.
 #[derive(Clone, Copy)]
 pub struct Mate {
     item: Option<u32>,
 }
 
-impl Mate {
-    pub fn of_word(word: u32) -> Mate
-        ensures { result.item ≡ premise word }
-    {
+impl From<u32> for Mate {
+    ghost from_gives = { λ word mate. mate.item ≡ premise word };
+
+    // Of the second word of a row.
+    fn from(word: u32) -> Mate {
         Mate {
-            item: if word == NONE { None } else { Some(word) },
+            item: mate_of(word),
         }
     }
 }

@@ -6,8 +6,9 @@ mod lines;
 mod opened;
 
 use crate::lines::{Counts, Mate, RefusalLine, RowLine};
-use crate::opened::{OpenedGraph, open_file};
-use graph::refusals::refusal_of;
+use crate::opened::{OpenError, OpenedGraph, open_file};
+use graph::refusals::Refusal;
+use graph::rows::WIDTH;
 use std::io::{BufWriter, Read, Write};
 
 fn print_graph(out: &mut impl Write, graph: &OpenedGraph) -> anyhow::Result<()> {
@@ -15,18 +16,17 @@ fn print_graph(out: &mut impl Write, graph: &OpenedGraph) -> anyhow::Result<()> 
         opened: graph.counts,
     };
     writeln!(out, "{counts}")?;
-    for (number, row) in graph.rows().chunks_exact(5).enumerate() {
-        if let [from, with, to, lane, cross] = row {
-            let line = RowLine {
-                number,
-                from: *from,
-                mate: Mate::of_word(*with),
-                to: *to,
-                lane: *lane,
-                cross: *cross,
-            };
-            writeln!(out, "{line}")?;
-        }
+    let (rows, _) = graph.rows().as_chunks::<WIDTH>();
+    for (number, [from, with, to, lane, cross]) in rows.iter().enumerate() {
+        let line = RowLine {
+            number,
+            from: *from,
+            mate: Mate::from(*with),
+            to: *to,
+            lane: *lane,
+            cross: *cross,
+        };
+        writeln!(out, "{line}")?;
     }
     Ok(())
 }
@@ -35,14 +35,15 @@ fn run(rt: &HostRuntime) -> anyhow::Result<()> {
     let mut file = Vec::new(rt.alloc());
     rt.stdin().read_to_end(&mut file)?;
     let mut out = BufWriter::new(rt.alloc(), rt.stdout())?;
-    match open_file(rt.alloc(), file.as_slice())? {
+    match open_file(rt.alloc(), file.as_slice()) {
         Ok(graph) => print_graph(&mut out, &graph)?,
-        Err(fault) => {
+        Err(OpenError::Refused(fault)) => {
             let line = RefusalLine {
-                refusal: refusal_of(fault),
+                refusal: Refusal::from(fault),
             };
             writeln!(out, "{line}")?;
         }
+        Err(OpenError::Memory(e)) => return Err(e.into()),
     }
     out.flush()?;
     Ok(())

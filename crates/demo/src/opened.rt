@@ -1,13 +1,39 @@
 // A graph file opened into words of the program's own.
 ghost use Rattle.std.specs.Prelude.{◌≡◌};
 ghost use Rattle.demo.specs.Lines.{row_words};
+ghost use Rattle.demo.specs.declared.opened.OpenError.TheVariants.{Refused, Memory};
 
 use graph::faults::FileFault;
 use graph::opening::open_graph;
-use graph::rows::Opened;
+use graph::rows::{HEAD, MAX_ROWS, Opened, WIDTH};
 use std::alloc::{AllocError, Global};
 
-// An opened graph: its counts, and memory that begins with its words.
+// Why there is no opened graph.
+#[derive(Drop)]
+pub enum OpenError {
+    // the file is refused
+    Refused(FileFault),
+    // the program itself has no memory left
+    Memory(AllocError),
+}
+
+impl From<FileFault> for OpenError {
+    ghost from_gives = { λ x y. y ≡ Refused x };
+
+    fn from(fault: FileFault) -> OpenError {
+        OpenError::Refused(fault)
+    }
+}
+
+impl From<AllocError> for OpenError {
+    ghost from_gives = { λ x y. y ≡ Memory x };
+
+    fn from(e: AllocError) -> OpenError {
+        OpenError::Memory(e)
+    }
+}
+
+// An opened graph: its counts, which are the answer of opening, and memory that begins with its words.
 #[derive(Drop)]
 pub struct OpenedGraph {
     pub counts: Opened,
@@ -19,37 +45,26 @@ impl OpenedGraph {
     pub fn rows(&self) -> &[u32]
         ensures { result.now ≡ row_words self.now.counts.rows self.now.words.items }
     {
-        let words = self.words.as_slice();
-        let end = 4 + 5 * self.counts.rows as usize;
-        if end <= words.len() {
-            &words[4..end]
-        } else {
-            &[]
-        }
+        let end = HEAD + WIDTH * self.counts.rows as usize;
+        self.words.get(HEAD..end).unwrap_or(&[])
     }
 }
 
 // the words of a graph with 1,024 rule rows, and of one with as many as there may be
-const FEW: usize = 5_124;
+const FEW: usize = HEAD + WIDTH * 1_024;
 
-const MOST: usize = 1_310_724;
+const MOST: usize = HEAD + WIDTH * MAX_ROWS as usize;
 
-fn open_within(
-    heap: Global,
-    file: &[u8],
-    room: usize,
-) -> Result<Result<OpenedGraph, FileFault>, AllocError> {
+fn open_within(heap: Global, file: &[u8], room: usize) -> Result<OpenedGraph, OpenError> {
     let mut words = vec![in heap; 0u32; room]?;
-    match open_graph(file, words.as_mut_slice()) {
-        Ok(counts) => Ok(Ok(OpenedGraph { counts, words })),
-        Err(fault) => Ok(Err(fault)),
-    }
+    let counts = open_graph(file, words.as_mut_slice())?;
+    Ok(OpenedGraph { counts, words })
 }
 
 // Opens the file with few words, and if these are too few with as many as any graph takes.
-pub fn open_file(heap: Global, file: &[u8]) -> Result<Result<OpenedGraph, FileFault>, AllocError> {
-    match open_within(heap, file, FEW)? {
-        Err(FileFault::Memory) => open_within(heap, file, MOST),
-        answer => Ok(answer),
+pub fn open_file(heap: Global, file: &[u8]) -> Result<OpenedGraph, OpenError> {
+    match open_within(heap, file, FEW) {
+        Err(OpenError::Refused(FileFault::Memory)) => open_within(heap, file, MOST),
+        answer => answer,
     }
 }

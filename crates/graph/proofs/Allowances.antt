@@ -1,5 +1,6 @@
 -- One record: which contents are allowed where, and their bytes.
-use Rattle.std.proofs.Common.{◌≡◌, ℕ, zero, suc, ◌+◌, ◌-◌, ◌<◌, Bool, true, false, cond, eqb, leb, List, [], ◌∷◌, ◌++◌, length, Some, None, Ok, Err, Option, Result, sym, refl, ap, ◌∙◌, subst, append-nil, arith}
+use Rattle.std.proofs.Common.{◌≡◌, ℕ, ◌+◌, ◌-◌, ◌<◌, Bool, true, false, cond, eqb, leb, List, [], ◌∷◌, ◌++◌, length, Some, None, Ok, Err, Option, Result, sym, refl, ap, ◌∙◌, subst, append-nil, arith}
+use Rattle.std.proofs.lemmas.Option.{none-some, same_Some}
 use Rattle.std.proofs.lemmas.Bool.{cond-false, eqb-true, eqb-false, ne_eqb, leb-false, lt-leb}
 use Rattle.text.specs.Names.{Name}
 use Rattle.text.specs.Forms.{Piece}
@@ -51,31 +52,21 @@ Fits kind.Dependency n p k = (0 < n) × (0 < p) × (k ≡ 3)
 Fits kind.Feature n p k = (0 < n) × (0 < p) × (k ≡ 4)
 Fits kind.End n p k = (0 < n) × (k ≡ 5)
 
-above : (n : ℕ) → (n ≡ 0 → ⊥) → 0 < n
-above zero h = absurd (h refl)
-above (suc n) h = omega arith
-
-some_is : (a b : Kind) → ◌≡◌ {A = Option Kind} (Some a) (Some b) → a ≡ b
-some_is a b e = cc
-
-none_is : (a : Kind) → ◌≡◌ {A = Option Kind} None (Some a) → ⊥
-none_is a e = let z : ◌≡◌ {A = ℕ} 0 1 = cc in omega arith
-
 kind_fits : (n p k : ℕ) (K : Kind) → kind_here n p k ≡ Some K → Fits K n p k
 kind_fits n p k K e = go (eqb n 0) (eqb k 1) (eqb k 2) (eqb k 5) (eqb p 0) (eqb k 3) (eqb k 4) refl refl refl refl refl refl refl e
   where
     is : (L : Kind) → ◌≡◌ {A = Option Kind} (Some L) (Some K) → Fits L n p k → Fits K n p k
-    is L h f = subst (λ x. Fits x n p k) (some_is L K h) f
+    is L h f = subst (λ x. Fits x n p k) (same_Some L K h) f
 
     go : (n0 k1 k2 k5 p0 k3 k4 : Bool) → eqb n 0 ≡ n0 → eqb k 1 ≡ k1 → eqb k 2 ≡ k2 → eqb k 5 ≡ k5 → eqb p 0 ≡ p0 → eqb k 3 ≡ k3 → eqb k 4 ≡ k4 → cond n0 (cond k1 (Some kind.Header) None) (cond k2 (Some kind.Package) (cond k5 (Some kind.End) (cond p0 None (cond k3 (Some kind.Dependency) (cond k4 (Some kind.Feature) None))))) ≡ Some K → Fits K n p k
     go true true k2 k5 p0 k3 k4 a b c d f g i h = is kind.Header h (eqb-true n 0 a, eqb-true k 1 b)
-    go true false k2 k5 p0 k3 k4 a b c d f g i h = absurd (none_is K h)
-    go false k1 true k5 p0 k3 k4 a b c d f g i h = is kind.Package h (above n (eqb-false n 0 a), eqb-true k 2 c)
-    go false k1 false true p0 k3 k4 a b c d f g i h = is kind.End h (above n (eqb-false n 0 a), eqb-true k 5 d)
-    go false k1 false false true k3 k4 a b c d f g i h = absurd (none_is K h)
-    go false k1 false false false true k4 a b c d f g i h = is kind.Dependency h (above n (eqb-false n 0 a), above p (eqb-false p 0 f), eqb-true k 3 g)
-    go false k1 false false false false true a b c d f g i h = is kind.Feature h (above n (eqb-false n 0 a), above p (eqb-false p 0 f), eqb-true k 4 i)
-    go false k1 false false false false false a b c d f g i h = absurd (none_is K h)
+    go true false k2 k5 p0 k3 k4 a b c d f g i h = absurd (none-some K h)
+    go false k1 true k5 p0 k3 k4 a b c d f g i h = is kind.Package h (omega (arith, eqb-false n 0 a), eqb-true k 2 c)
+    go false k1 false true p0 k3 k4 a b c d f g i h = is kind.End h (omega (arith, eqb-false n 0 a), eqb-true k 5 d)
+    go false k1 false false true k3 k4 a b c d f g i h = absurd (none-some K h)
+    go false k1 false false false true k4 a b c d f g i h = is kind.Dependency h (omega (arith, eqb-false n 0 a), omega (arith, eqb-false p 0 f), eqb-true k 3 g)
+    go false k1 false false false false true a b c d f g i h = is kind.Feature h (omega (arith, eqb-false n 0 a), omega (arith, eqb-false p 0 f), eqb-true k 4 i)
+    go false k1 false false false false false a b c d f g i h = absurd (none-some K h)
 
 -- a field's value becomes the content
 as-content : {A : Type 0} (f : A → Content) (r : Result (A × View) RecordFault) (c : Content) → as_content f r ≡ Ok c → (a : A) × (w : View) × (r ≡ Ok (a, w)) × (f a ≡ c)
@@ -158,6 +149,15 @@ module _ (keys : List Key) (owner : ℕ) where
       let all : bs ≡ feature_body g = c.1 ∙ ap (λ z. string n.text ++ z) (ap (λ v. v.left) o.1 ∙ s.2 ∙ append-nil (list_bytes value x.0)) in
       subst (λ y. (has_key owner y.name keys ≡ false) × LawfulFeature y × (bs ≡ feature_body y)) q (o.0, (c.0, s.1.0.0, s.1.0.1), all)
 
+  -- its name, that it is a new one, and its values make a feature
+  feature-from : (f : Feature) (v : View) (n : Piece) (w x y : View) → name_field v ≡ Ok (n, w) → fresh keys owner n w ≡ Ok (tt, w) → w ≡ x → values_field x ≡ Ok (f.values, y) → n.text ≡ f.name → feature_field keys owner v ≡ Ok (f, y)
+  feature-from f v n w x y named new on values text =
+      ap (λ r. on_ok r after_name) named
+      ∙ ap (λ r. on_ok r (after_fresh n)) new
+      ∙ ap (λ z. after_fresh n tt z) on
+      ∙ ap (λ r. on_ok r (λ vs. give (record { name = n.text; values = vs }))) values
+      ∙ ap (λ z. Ok (record { name = z; values = f.values }, y)) text
+
   feature-reads : (f : Feature) (k : ℕ) → has_key owner f.name keys ≡ false → LawfulFeature f → (w : View) × (feature_field keys owner (at (feature_body f) k) ≡ Ok (f, w))
   feature-reads f k new law =
       let j : ℕ = k + length (string f.name) in
@@ -169,14 +169,8 @@ module _ (keys : List Key) (owner : ℕ) where
       let t : n.text ≡ f.name = ap (λ p. p.0) q in
       let v : h.1 ≡ at rest j = ap (λ p. p.1) q in
       let s = values-closed.complete f.values j tt ((law.1, law.2), tt) in
-      let y : fresh keys owner n h.1 ≡ Ok (tt, h.1) = cond-false _ _ _ (ap (λ z. has_key owner z keys) t ∙ new) in (
-        s.0,
-        ap (λ r. on_ok r after_name) h.2
-            ∙ ap (λ r. on_ok r (after_fresh n)) y
-            ∙ ap (λ z. after_fresh n tt z) (v ∙ ap (λ z. at z j) (sym (append-nil rest)))
-            ∙ ap (λ r. on_ok r (λ values. give (record { name = n.text; values = values }))) s.1
-            ∙ ap (λ z. Ok (record { name = z; values = f.values }, s.0)) t,
-      )
+      let y : fresh keys owner n h.1 ≡ Ok (tt, h.1) = cond-false _ _ _ (ap (λ z. has_key owner z keys) t ∙ new) in
+      (s.0, feature-from f (at (feature_body f) k) n h.1 (at (rest ++ []) j) s.0 h.2 y (v ∙ ap (λ z. at z j) (sym (append-nil rest))) s.1 t)
 
 -- what is read is allowed, and has just its kind and body
 abbrev pub Tells : Stand → ℕ → List ℕ → Content → Type 0

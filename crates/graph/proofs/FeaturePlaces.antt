@@ -15,9 +15,6 @@ use Rattle.graph.specs.Places.{feat, features_of, features_before, number}
 use Rattle.graph.specs.Rules.{later, place_of, on_some}
 use Rattle.graph.proofs.Links.{keys_length, keys-at}
 
-abbrev no_key : Key
-no_key = record { owner = 0; name = [] }
-
 abbrev no_feature : Feature
 no_feature = record { name = []; values = [] }
 
@@ -117,27 +114,27 @@ features-differ (a ∷ g) zero l = l.0.2
 features-differ (a ∷ g) (suc q) l = features-differ g q l.1
 
 -- what a search in the index finds, as the number of the item
-pub finds-item : (file : List ℕ) (entries : List Entry) (n : ℕ) (g : Graph) (q : ℕ) (name : List ℕ) (r : Option ℕ) → n ≤ length entries → keys_of file entries n ≡ keys_from 0 g → AllByRecursion LawfulPackage g → Finds file entries n q name r → on_some (λ k. (length g + dependency_count g) + k) r ≡ on_some (λ j. number g (feat q j)) (place_of (features_of g q) name)
-finds-item file entries n g q name None l e law f =
+pub finds-item : (entries : List Entry) (n : ℕ) (g : Graph) (q : ℕ) (name : List ℕ) (r : Option ℕ) → n ≤ length entries → keys_of entries n ≡ keys_from 0 g → AllByRecursion LawfulPackage g → Finds entries n q name r → on_some (λ k. (length g + dependency_count g) + k) r ≡ on_some (λ j. number g (feat q j)) (place_of (features_of g q) name)
+finds-item entries n g q name None l e law f =
     ap (on_some (λ j. number g (feat q j))) (sym (place_none (features_of g q) name (λ j m.
-    let h = key-at 0 g q j (key_of file blank) m in
-    let w : features_before g q + j < n = omega (arith, h.0, ap length e, keys_length file entries n l) in
-    let k : key_of file (entry_at entries (features_before g q + j)) ≡ record { owner = 0 + q; name = (get_or (features_of g q) j no_feature).name } =
-    sym (keys-at file entries n (features_before g q + j) l w) ∙ ap (λ ks. get_or ks (features_before g q + j) (key_of file blank)) e ∙ h.1 in
+    let h = key-at 0 g q j (key_of blank) m in
+    let w : features_before g q + j < n = omega (arith, h.0, ap length e, keys_length entries n l) in
+    let k : key_of (entry_at entries (features_before g q + j)) ≡ record { owner = 0 + q; name = (get_or (features_of g q) j no_feature).name } =
+    sym (keys-at entries n (features_before g q + j) l w) ∙ ap (λ ks. get_or ks (features_before g q + j) (key_of blank)) e ∙ h.1 in
     let z : 0 + q ≡ q = omega arith in
     let t : (eqb (0 + q) q && bytes_eq (get_or (features_of g q) j no_feature).name name) ≡ false = ap (is_key q name) (sym k) ∙ f (features_before g q + j) w in
     ap (λ x. x && bytes_eq (get_or (features_of g q) j no_feature).name name) (sym (eq-eqb (0 + q) q z)) ∙ t)))
-finds-item file entries n g q name (Some k) l e law f =
+finds-item entries n g q name (Some k) l e law f =
     let w : k < n = f.0 in
-    let is : get_or (keys_from 0 g) k (key_of file blank) ≡ key_of file (entry_at entries k) = ap (λ ks. get_or ks k (key_of file blank)) (sym e) ∙ keys-at file entries n k l w in
-    let b = and_parts (eqb (entry_at entries k).owner q) (bytes_eq (key_of file (entry_at entries k)).name name) f.1 in
-    let o : (entry_at entries k).owner ≡ q = eqb-true (entry_at entries k).owner q b.0 in
-    let own : (get_or (keys_from 0 g) k (key_of file blank)).owner ≡ 0 + q = ap (λ x. x.owner) is ∙ o ∙ (let z : q ≡ 0 + q = omega arith in z) in
-    let m : k < length (keys_from 0 g) = omega (arith, ap length e, keys_length file entries n l) in
-    let h = key-of 0 g q k (key_of file blank) m own in
-    let at = key-at 0 g q h.0 (key_of file blank) h.1 in
+    let is : get_or (keys_from 0 g) k (key_of blank) ≡ key_of (entry_at entries k) = ap (λ ks. get_or ks k (key_of blank)) (sym e) ∙ keys-at entries n k l w in
+    let b = and_parts (eqb (entry_at entries k).key.owner q) (bytes_eq (key_of (entry_at entries k)).name name) f.1 in
+    let o : (entry_at entries k).key.owner ≡ q = eqb-true (entry_at entries k).key.owner q b.0 in
+    let own : (get_or (keys_from 0 g) k (key_of blank)).owner ≡ 0 + q = ap (λ x. x.owner) is ∙ o ∙ (let z : q ≡ 0 + q = omega arith in z) in
+    let m : k < length (keys_from 0 g) = omega (arith, ap length e, keys_length entries n l) in
+    let h = key-of 0 g q k (key_of blank) m own in
+    let at = key-at 0 g q h.0 (key_of blank) h.1 in
     let same : bytes_eq (get_or (features_of g q) h.0 no_feature).name name ≡ true =
-    ap (λ x. bytes_eq x.name name) (sym at.1 ∙ ap (λ i. get_or (keys_from 0 g) i (key_of file blank)) (sym h.2) ∙ is) ∙ b.1 in
+    ap (λ x. bytes_eq x.name name) (sym at.1 ∙ ap (λ i. get_or (keys_from 0 g) i (key_of blank)) (sym h.2) ∙ is) ∙ b.1 in
     let p : place_of (features_of g q) name ≡ Some h.0 = place-some (features_of g q) name h.0 h.1 same (features-differ g q law) in
     let c : (length g + dependency_count g) + k ≡ number g (feat q h.0) = omega (arith, h.2) in
     ap (λ i. Some i) c ∙ ap (on_some (λ j. number g (feat q j))) (sym p)

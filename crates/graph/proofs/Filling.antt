@@ -1,8 +1,10 @@
 -- One record more in the tables of a directory.
-use Rattle.std.proofs.Common.{◌≡◌, ℕ, ◌+◌, ◌-◌, ◌<◌, ◌≤◌, Bool, true, false, List, [], ◌∷◌, ◌++◌, length, get_or, drop, set, Ok, Err, sym, refl, ap, ◌∙◌, subst, arith}
+use Rattle.std.proofs.Common.{◌≡◌, ℕ, ◌+◌, ◌-◌, ◌<◌, ◌≤◌, Bool, true, false, List, [], ◌∷◌, ◌++◌, length, get_or, drop, set, Some, None, Ok, Err, Option, sym, refl, ap, ◌∙◌, subst, arith}
 use Rattle.std.proofs.lemmas.List.{drop-drop, length-drop, get_or-set_same, get_or-set_other}
 use Rattle.records.specs.declared.faults.RecordFault.{RecordFault}
-use Rattle.records.specs.Frames.{Frame, frame_of}
+use Rattle.records.specs.declared.frames.Kind.{Kind}
+use Rattle.records.specs.declared.frames.Kind.TheVariants as kind
+use Rattle.records.specs.Frames.{kind_at, Frame, frame_of}
 use Rattle.records.specs.Graphs.{Part, dependency, feature, Graph}
 use Rattle.records.specs.Encoding.{package_body, dependency_body, feature_body, record_bytes, part_bytes, header_bytes}
 use Rattle.records.proofs.Numbers.{not-both, in-ok}
@@ -47,7 +49,7 @@ mark-is : (b : Bool) (name : List ℕ) → marked (package_body b name) ≡ b
 mark-is false name = refl
 mark-is true name = refl
 
--- a new last entry leaves those before it
+-- a new last entry, and that it leaves those before it: each stands for three steps at each of the tables
 entry_new : {X : Type 0} (us xs : List X) (x y : X) (n m : ℕ) → ((k : ℕ) → k < m → get_or us k x ≡ get_or (set xs n y) k x) → n < m → n < length xs → get_or us n x ≡ y
 entry_new us xs x y n m keep l room = keep n l ∙ get_or-set_same xs n y x room
 
@@ -64,6 +66,28 @@ module _ (file : List ℕ) (t : Tables) (start p d f : ℕ) where
   pub never-faulty : Midway file t start p d f → (e : RecordFault) → frame_of (drop start file) ≡ Err e → ⊥
   never-faulty (ps, gs, m) e h =
       not-both (sym h ∙ ap frame_of (m.bytes ∙ front_bytes ps gs m.rest) ∙ frame-reads (front_kind ps gs) (front_body ps gs) (front_after ps gs m.rest))
+
+  -- of a known kind, which is no header's
+  pub known-kind : (fr : Frame) → frame_of (drop start file) ≡ Ok fr → Midway file t start p d f → kind_at fr.kind ≡ None → ⊥
+  known-kind fr here (ps, gs, m) e = go ps gs m
+    where
+      none : (n : ℕ) (k : Kind) → n ≡ fr.kind → kind_at n ≡ Some k → ⊥
+      none n k q s = let z : ◌≡◌ {A = Option Kind} (Some k) None = sym s ∙ ap kind_at q ∙ e in absurd (let o : ◌≡◌ {A = ℕ} 0 1 = cc in omega arith)
+
+      go : (ps : List Part) (gs : Graph) → Ahead file t start p d f ps gs → ⊥
+      go [] [] m = none 5 kind.End (ap (λ x. x.kind) (front fr here [] [] m)) refl
+      go [] (a ∷ gs) m = none 2 kind.Package (ap (λ x. x.kind) (front fr here [] (a ∷ gs) m)) refl
+      go (dependency x ∷ ps) gs m = none 3 kind.Dependency (ap (λ x. x.kind) (front fr here (dependency x ∷ ps) gs m)) refl
+      go (feature x ∷ ps) gs m = none 4 kind.Feature (ap (λ x. x.kind) (front fr here (feature x ∷ ps) gs m)) refl
+
+  pub no-header : (fr : Frame) → frame_of (drop start file) ≡ Ok fr → Midway file t start p d f → fr.kind ≡ 1 → ⊥
+  no-header fr here (ps, gs, m) e = go ps gs m
+    where
+      go : (ps : List Part) (gs : Graph) → Ahead file t start p d f ps gs → ⊥
+      go [] [] m = omega (arith, e, ap (λ x. x.kind) (front fr here [] [] m))
+      go [] (a ∷ gs) m = omega (arith, e, ap (λ x. x.kind) (front fr here [] (a ∷ gs) m))
+      go (dependency x ∷ ps) gs m = omega (arith, e, ap (λ x. x.kind) (front fr here (dependency x ∷ ps) gs m))
+      go (feature x ∷ ps) gs m = omega (arith, e, ap (λ x. x.kind) (front fr here (feature x ∷ ps) gs m))
 
   -- after the last one all is told
   pub all_told : (fr : Frame) → frame_of (drop start file) ≡ Ok fr → fr.kind ≡ 5 → Midway file t start p d f → (g : Graph) × Says file g × TellsGraph file t 0 g (length header_bytes) 0 0

@@ -1,5 +1,5 @@
 -- The loop of the first reading: what was gathered and what is left make the whole.
-use Rattle.std.proofs.Common.{◌≡◌, ℕ, ◌+◌, ◌-◌, ◌≤◌, true, false, List, [], ◌∷◌, ◌++◌, length, take, drop, Ok, Err, Result, sym, refl, ap, ◌∙◌, append_assoc, append-nil, arith}
+use Rattle.std.proofs.Common.{◌≡◌, ℕ, ◌+◌, ◌-◌, ◌≤◌, true, false, List, [], ◌∷◌, ◌++◌, length, drop, Ok, Err, Result, sym, refl, ap, ◌∙◌, append_assoc, append-nil, arith}
 use Rattle.std.proofs.lemmas.List.{drop-drop, length-drop}
 use Rattle.std.proofs.lemmas.Bool.{true≢false, false≢true}
 use Rattle.records.specs.declared.faults.RecordFault.{RecordFault}
@@ -18,7 +18,7 @@ use Rattle.graph.specs.Reading.{Content, header, heads, part, end, Stand, Found,
 use Rattle.graph.specs.Law.{dependencies_in, dependency_count}
 use Rattle.graph.specs.Gathered.{Gathered, gathered, keys_in, keys_from}
 use Rattle.graph.specs.Views.{content_view, found_view, Fits}
-use Rattle.graph.proofs.Founds.{feature-fits}
+use Rattle.graph.proofs.Founds.{feature-room}
 use Rattle.graph.proofs.Scans.{scan-open, frame-shorter}
 
 -- one record more is gathered from what is left
@@ -102,18 +102,13 @@ dependencies-step (part (dependency d)) n = omega arith
 dependencies-step (part (feature f)) n = omega arith
 dependencies-step end n = omega arith
 
--- a feature that is found fits into the index
-pub found-fits : (file : List ℕ) (st : Stand) (count : ℕ) (x : found.Found) → length st.keys ≡ count → st.start ≤ length file → record_at st (drop st.start file) ≡ Ok (found_view x) → Fits file count st.start x.content
-found-fits file st count x n l h =
-    let p = found-parts st (drop st.start file) (found_view x) h in
-    go x.content p.1
+-- a feature that is found has room in the index
+pub found-fits : (st : Stand) (bs : List ℕ) (x : found.Found) → record_at st bs ≡ Ok (found_view x) → Fits (length st.keys) x.content
+found-fits st bs x h = go x.content (found-parts st bs (found_view x) h).1
   where
-    go : (c : code.Content) → content_of st (frame x.frame) ≡ Ok (content_view c) → Fits file count st.start c
+    go : (c : code.Content) → content_of st (frame x.frame) ≡ Ok (content_view c) → Fits (length st.keys) c
     go variant.Header e = tt
     go (variant.Package q) e = tt
     go (variant.Dependency d) e = tt
-    go (variant.Feature f) e =
-        let p = found-parts st (drop st.start file) (found_view x) h in
-        let r = feature-fits st (drop st.start file) (frame x.frame) (feature_view f) p.0 e in
-        (omega (arith, r.0), omega (arith, r.2, length-drop st.start file), ap (take (length f.name.bytes.now)) (sym (drop-drop 7 st.start file)) ∙ r.1)
+    go (variant.Feature f) e = feature-room st (frame x.frame) (feature_view f) e
     go variant.End e = tt

@@ -1,5 +1,5 @@
 -- The first reading of a graph: what it gathers, and that it gathers just where it reads a graph.
-use Rattle.std.proofs.Common.{◌≡◌, ℕ, suc, ◌+◌, ◌≤◌, Bool, true, false, cond, ltb, List, [], ◌∷◌, length, get_or, Ok, Err, Result, sym, refl, ap, ◌∙◌, subst, arith, w8, Fits}
+use Rattle.std.proofs.Common.{◌≡◌, ℕ, suc, ◌+◌, Bool, true, false, cond, ltb, List, [], ◌∷◌, length, get_or, Ok, Err, sym, refl, ap, ◌∙◌, subst, arith, w8, Fits}
 use Rattle.std.proofs.lemmas.List.{length-append}
 use Rattle.std.proofs.lemmas.Bool.{cond-false, le-ltb}
 use Rattle.records.specs.Graphs.{Part, dependency, feature, Graph}
@@ -9,11 +9,10 @@ use Rattle.graph.specs.declared.contents.Counts.{Counts}
 use Rattle.graph.specs.declared.faults.FileFault.{FileFault}
 use Rattle.graph.specs.declared.faults.FileFault.TheVariants.{Size}
 use Rattle.graph.specs.declared.index.Index.{Index}
-use Rattle.graph.specs.Keys.{most_features}
 use Rattle.graph.specs.Reading.{most_bytes, begin, Reading, scan, graph_in, first_reading}
 use Rattle.graph.specs.Law.{features_in, dependency_count, feature_count, Says}
 use Rattle.graph.specs.Gathered.{keys_in, keys_from, Gathered, gathered, gathered_in, gathered_by}
-use Rattle.graph.specs.Views.{keys, Whole}
+use Rattle.graph.specs.Views.{keys}
 use Rattle.graph.specs.Directory.{Accepted}
 use Rattle.graph.proofs.Links.{keys_length}
 use Rattle.graph.proofs.FirstSound.{first-sound}
@@ -48,7 +47,7 @@ scan-keyed file fit g n e =
 pub keyed : (file : List ℕ) → Bytes file → (g : Graph) (n : ℕ) → first_reading file ≡ Ok (g, n) → gathered_in file ≡ Ok (all_of g n)
 keyed file fit g n e = cond-false _ _ _ (le-ltb most_bytes (length file) (first-sound file fit g n e).0.size) ∙ scan-keyed file fit g n e
 
--- where something is gathered, a graph is read; a fault of one is that of the other
+-- where something is gathered, a graph is read
 pub gathered-read : (file : List ℕ) (x : Gathered) → gathered_in file ≡ Ok x → (g : Graph) × (n : ℕ) × (first_reading file ≡ Ok (g, n))
 gathered-read file x e = go (ltb most_bytes (length file)) refl (scan begin file) refl e
   where
@@ -57,32 +56,19 @@ gathered-read file x e = go (ltb most_bytes (length file)) refl (scan begin file
     go false q (Err f) o h = absurd (not-both h)
     go false q (Ok p) o h = (p.0.packages, p.1, cond-false _ _ _ q ∙ ap graph_in o)
 
-in-err : {X Y Z : Type 0} (f g : Y) → ◌≡◌ {A = Result X Y} (Err f) (Err g) → ◌≡◌ {A = Result Z Y} (Err f) (Err g)
-in-err f g e = cc
-
-pub gathered-fault : (file : List ℕ) (f : FileFault) → gathered_in file ≡ Err f → first_reading file ≡ Err f
-gathered-fault file f e = go (ltb most_bytes (length file)) (scan begin file) e
-  where
-    go : (t : Bool) (r : Reading) → cond t (Err Size) (gathered begin r) ≡ Err f → cond t (Err Size) (graph_in r) ≡ Err f
-    go true r h = in-err {X = Gathered} {Z = Graph × ℕ} Size f h
-    go false (Err x) h = in-err {X = Gathered} {Z = Graph × ℕ} x f h
-    go false (Ok p) h = absurd (not-both (sym h))
-
 -- what the first reading leaves of a file that it accepts
-pub accepted : (file : List ℕ) → Bytes file → (index : Index) (counts : Counts) → index.file.now ≡ file → Whole index → index.count ≤ most_features → counts.features ≡ index.count → gathered_by (Ok counts) (keys index) ≡ gathered_in file → (g : Graph) × (first_reading file ≡ Ok (g, counts.read)) × Accepted index counts g
-accepted file fit index counts same whole few featured e =
+pub accepted : (file : List ℕ) → Bytes file → (index : Index) (counts : Counts) → index.file.now ≡ file → counts.features ≡ index.lists.count → gathered_by (Ok counts) (keys index) ≡ gathered_in file → (g : Graph) × (first_reading file ≡ Ok (g, counts.read)) × Accepted index counts g
+accepted file fit index counts same featured e =
     let r = gathered-read file (record { read = counts.read; packages = counts.packages; dependencies = counts.dependencies; keys = keys index }) (sym e) in
     let g : Graph = r.0 in
     let s = first-sound file fit g r.1 r.2 in
     let all = in-ok {Y = FileFault} (record { read = counts.read; packages = counts.packages; dependencies = counts.dependencies; keys = keys index }) (all_of g r.1) (e ∙ keyed file fit g r.1 r.2) in
-    let n : length (keys index) ≡ index.count = keys_length index.file.now index.entries index.count (omega (arith, few, whole.full)) in
+    let n : length (keys index) ≡ index.lists.count = keys_length index.lists.entries index.lists.count (omega (arith, index.few, index.linked.full)) in
     let f : counts.features ≡ feature_count g = featured ∙ sym n ∙ ap (λ x. length x.keys) all ∙ keys-count 0 g in (
       g,
       r.2 ∙ ap (λ x. Ok (g, x.read)) (sym all),
       record {
         says = subst (λ x. Says x g) (sym same) s.0;
-        whole = whole;
-        few = few;
         keyed = ap (λ x. x.keys) all;
         counted = λ i. record { read = (ap (λ x. x.read) all ∙ s.1) i; packages = (all i).packages; dependencies = (all i).dependencies; features = f i };
       },

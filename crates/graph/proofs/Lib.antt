@@ -1,3 +1,4 @@
+pub mod Sets
 pub mod Links
 pub mod Scans
 pub mod Founds
@@ -8,6 +9,7 @@ pub mod FirstSound
 pub mod FirstComplete
 pub mod FirstLaw
 pub mod PartsAgain
+pub mod FilledTells
 pub mod SheetRows
 pub mod FeaturePlaces
 pub mod Befores
@@ -16,6 +18,7 @@ pub mod Telling
 pub mod Keyed
 pub mod RowsLaid
 pub mod SheetsLaid
+pub mod PartRows
 pub mod Resolving
 pub mod Namings
 pub mod OpenLaw

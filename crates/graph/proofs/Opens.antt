@@ -11,20 +11,15 @@ use Rattle.graph.specs.declared.rows.Opened.{Opened}
 use Rattle.graph.specs.declared.rows.Row.{Row}
 use Rattle.graph.specs.declared.tables.Directory.{Directory}
 use Rattle.graph.specs.Directory.{Tells, ReadAs}
-use Rattle.graph.specs.Laying.{its, Told, EndsKnown, rows_below}
 use Rattle.graph.specs.Law.{Says, dependency_count, feature_count}
-use Rattle.graph.specs.Opening.{most_rows, over, on_checked, on_graph, laid_for, open_graph, leaving, with_words}
+use Rattle.graph.specs.Opening.{over, on_checked, on_graph, laid_for, open_graph, leaving, with_words}
 use Rattle.graph.specs.OpeningLaw.{OpeningLaw, RulesLaw}
 use Rattle.graph.specs.Parts.{graph_or, graph_of}
 use Rattle.graph.specs.Reading.{first_reading}
 use Rattle.graph.specs.Rules.{row_words, rows, graph_words}
-use Rattle.graph.specs.Second.{ends, placed, references, then_check, second_reading}
-use Rattle.graph.specs.Sheets.{sheet, lays}
+use Rattle.graph.specs.Second.{second_reading}
 use Rattle.graph.proofs.OpenLaw.{opening-law}
-use Rattle.graph.proofs.Resolving.{ends-known}
-use Rattle.graph.proofs.RowsLaid.{rows-laid}
 use Rattle.graph.proofs.RulesStand.{rules-law}
-use Rattle.graph.proofs.SheetsLaid.{words-laid}
 
 graph-read : (file : List ℕ) (g : Graph) (n : ℕ) → first_reading file ≡ Ok (g, n) → graph_of file ≡ g
 unfolding graph_of
@@ -35,31 +30,26 @@ pub first-refused : (file words : List ℕ) (e : FileFault) → first_reading fi
 first-refused file words e h = ap (λ r. on_graph r (λ g n. on_checked (second_reading g) (laid_for g n words))) h
 
 -- one that is accepted
-module _ (file words : List ℕ) (dir : Directory) (read : ReadAs file (Ok dir)) where
-  graph : its dir ≡ read.1.0
+module _ (file words : List ℕ) (dir : Directory) (read : ReadAs file (Ok tt) dir) where
+  abbrev its : Graph
+  its = graph_of dir.index.file.now
+
+  graph : its ≡ read.1.0
   graph = ap graph_of read.0 ∙ graph-read file read.1.0 dir.counts.read read.1.1
 
-  pub told : Told dir
+  pub told : Tells dir its
   told = subst (Tells dir) (sym graph) read.1.2
 
-  after_first : open_graph file words ≡ on_checked (second_reading (its dir)) (laid_for (its dir) dir.counts.read words)
+  after_first : open_graph file words ≡ on_checked (second_reading (its)) (laid_for (its) dir.counts.read words)
   after_first =
       ap (λ r. on_graph r (λ g n. on_checked (second_reading g) (laid_for g n words))) read.1.1
       ∙ ap (λ g. on_checked (second_reading g) (laid_for g dir.counts.read words)) (sym graph)
 
-  pub second-refused : (e : InRecord) → Err e ≡ second_reading (its dir) → open_graph file words ≡ Err (Record e)
-  second-refused e h = after_first ∙ ap (λ r. on_checked r (laid_for (its dir) dir.counts.read words)) (sym h)
+  pub second-refused : (e : InRecord) → Err e ≡ second_reading (its) → open_graph file words ≡ Err (Record e)
+  second-refused e h = after_first ∙ ap (λ r. on_checked r (laid_for (its) dir.counts.read words)) (sym h)
 
-  pub both-accept : Ok tt ≡ second_reading (its dir) → open_graph file words ≡ laid_for (its dir) dir.counts.read words
-  both-accept h = after_first ∙ ap (λ r. on_checked r (laid_for (its dir) dir.counts.read words)) (sym h)
-
--- the second reading accepts, so the ends are known
-pub second-ends : (g : Graph) → Ok tt ≡ second_reading g → EndsKnown g
-second-ends g h = ends-known g (go (ends g (placed g)) (sym h))
-  where
-    go : (r : Result (Unit {0}) InRecord) → then_check r (references g (placed g)) ≡ Ok tt → r ≡ Ok tt
-    go (Ok u) e = refl
-    go (Err x) e = e
+  pub both-accept : Ok tt ≡ second_reading (its) → open_graph file words ≡ laid_for (its) dir.counts.read words
+  both-accept h = after_first ∙ ap (λ r. on_checked r (laid_for (its) dir.counts.read words)) (sym h)
 
 -- the facts of an opening, from its equation
 with-left : (words : List ℕ) (q : Result (Opened × List ℕ) FileFault) → with_words (leaving words q).0 (leaving words q).1 ≡ q
@@ -84,10 +74,9 @@ head-set (x ∷ y ∷ []) tail a b c d l = absurd (omega (arith, l))
 head-set (x ∷ y ∷ z ∷ []) tail a b c d l = absurd (omega (arith, l))
 head-set (x ∷ y ∷ z ∷ u ∷ ws) tail a b c d l = refl
 
-pub words-written : (g : Graph) (words : List ℕ) → length (rows g) ≤ most_rows → 4 + 5 * length (rows g) ≤ length words → set (set (set (set (lays (sheet words 0) (rows_below g (length g))).words 0 (length g)) 1 (dependency_count g)) 2 (feature_count g)) 3 (length (rows g)) ≡ over (graph_words g) words
-words-written g words few room =
+pub words-written : (g : Graph) (words laid : List ℕ) → 4 + 5 * length (rows g) ≤ length words → laid ≡ take 4 words ++ (flat_map row_words (rows g) ++ drop (4 + 5 * length (rows g)) words) → set (set (set (set laid 0 (length g)) 1 (dependency_count g)) 2 (feature_count g)) 3 (length (rows g)) ≡ over (graph_words g) words
+words-written g words laid room e =
     let n : 4 + 5 * length (rows g) ≡ length (graph_words g) = omega (arith, rows-length (rows g)) in
-    ap (λ rs. set (set (set (set (lays (sheet words 0) rs).words 0 (length g)) 1 (dependency_count g)) 2 (feature_count g)) 3 (length (rows g))) (rows-laid g)
-    ∙ ap (λ ws. set (set (set (set ws 0 (length g)) 1 (dependency_count g)) 2 (feature_count g)) 3 (length (rows g))) (words-laid words (rows g) few room)
+    ap (λ ws. set (set (set (set ws 0 (length g)) 1 (dependency_count g)) 2 (feature_count g)) 3 (length (rows g))) e
     ∙ head-set words _ _ _ _ _ (omega arith)
     ∙ ap (λ k. graph_words g ++ drop k words) n

@@ -1,16 +1,13 @@
 -- A record that stands at a place is read again as what it says.
-use Rattle.std.proofs.Common.{◌≡◌, ℕ, ◌+◌, ◌<◌, ◌≤◌, List, ◌++◌, length, drop, Ok, sym, ap, ◌∙◌, ⊎_elim, append-nil, arith}
-use Rattle.std.proofs.lemmas.List.{drop_all, length-append}
-use Rattle.std.proofs.lemmas.Bool.{cases_lt}
+use Rattle.std.proofs.Common.{◌≡◌, ℕ, ◌+◌, List, length, drop, Some, Ok, sym, ap, ◌∙◌, append-nil}
 use Rattle.records.specs.Fields.{View, on_ok, and_then, give}
 use Rattle.records.specs.Bodies.{values_field}
 use Rattle.records.specs.Graphs.{Feature, Part, dependency, feature}
-use Rattle.records.specs.Encoding.{string, list_bytes, value, dependency_body, feature_body, part_bytes, LawfulFeature}
+use Rattle.records.specs.Encoding.{string, list_bytes, value, dependency_body, feature_body, LawfulFeature}
 use Rattle.records.proofs.Framing.{frame-reads}
 use Rattle.records.proofs.Codes.{at}
 use Rattle.records.proofs.CodedFields.{name-coded, values-closed}
-use Rattle.graph.specs.Reading.{part}
-use Rattle.graph.specs.Parts.{feature_again, or_end, part_as, part_in}
+use Rattle.graph.specs.Parts.{feature_again, or_none, part_as, part_in}
 use Rattle.graph.specs.Directory.{Stands}
 use Rattle.graph.proofs.Allowances.{dependency-reads}
 
@@ -25,24 +22,10 @@ feature-reads f k l =
           ∙ ap (λ r. on_ok r (λ values. give (record { name = f.name; values = values }))) b,
     )
 
-pub stands-reads : (file : List ℕ) (start : ℕ) (p : Part) → Stands file start p → part_in (drop start file) ≡ part p
+pub stands-reads : (file : List ℕ) (start : ℕ) (p : Part) → Stands file start p → part_in (drop start file) ≡ Some p
 stands-reads file start (dependency d) s =
     let r = dependency-reads d 6 s.lawful in
-    ap part_in s.bytes ∙ ap part_as (frame-reads 3 (dependency_body d) s.rest) ∙ ap (or_end (λ x. part (dependency x))) r.1
+    ap part_in s.bytes ∙ ap part_as (frame-reads 3 (dependency_body d) s.rest) ∙ ap (or_none dependency) r.1
 stands-reads file start (feature f) s =
     let r = feature-reads f 6 s.lawful in
-    ap part_in s.bytes ∙ ap part_as (frame-reads 4 (feature_body f) s.rest) ∙ ap (or_end (λ x. part (feature x))) r.1
-
--- and it lies in the file
-record-some : (p : Part) → 0 < length (part_bytes p)
-record-some (dependency d) = omega arith
-record-some (feature f) = omega arith
-
-pub stands-within : (file : List ℕ) (start : ℕ) (p : Part) → Stands file start p → start ≤ length file
-stands-within file start p s =
-    ⊎_elim
-    (λ (l : start < length file). omega arith)
-    (λ (l : length file ≤ start).
-    let e : length (part_bytes p ++ s.rest) ≡ 0 = ap length (sym s.bytes ∙ drop_all start file l) in
-    absurd (omega (arith, record-some p, e, length-append (part_bytes p) s.rest)))
-    (cases_lt start (length file))
+    ap part_in s.bytes ∙ ap part_as (frame-reads 4 (feature_body f) s.rest) ∙ ap (or_none feature) r.1

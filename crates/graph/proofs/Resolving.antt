@@ -16,7 +16,6 @@ use Rattle.graph.specs.Places.{parts_of, dependencies_of, features_of}
 use Rattle.graph.specs.Rules.{later, place_of}
 use Rattle.graph.specs.Second.{Placed, placed_parts, placed_from, placed, package_record, parts_length, has_feature, has_dependency, end_has, ends_have, known, first_unknown, unknown_in, unknown_end, fault_at, checked, ends, references, then_check, second_reading}
 use Rattle.graph.specs.Directory.{no_dependency, no_feature, no_placed}
-use Rattle.graph.specs.Laying.{EndsKnown}
 use Rattle.graph.specs.OpeningLaw.{DependencyAt, FeatureAt, HasFeature, HasDependency, EndsHave, Resolves, Resolved}
 
 -- how many records there are
@@ -83,9 +82,7 @@ from_at (a ∷ g) number start owner j l =
 pub placed-number : (g : Graph) (j : ℕ) → j < length (placed g) → (get_or (placed g) j no_placed).number ≡ (j + (get_or (placed g) j no_placed).owner) + 2
 placed-number g j l = omega (arith, (from_at g 1 (length header_bytes) 0 j l).0)
 
-pub placed-owner : (g : Graph) (j : ℕ) → j < length (placed g) → (get_or (placed g) j no_placed).owner < length g
-placed-owner g j l = omega (arith, (from_at g 1 (length header_bytes) 0 j l).2)
-
+-- the library splits `All`, which goes by place, and this one goes by recursion
 all_split : {X : Type 0} (P : X → Type 0) (xs ys : List X) → AllByRecursion P (xs ++ ys) → AllByRecursion P xs × AllByRecursion P ys
 all_split P [] ys h = (tt, h)
 all_split P (x ∷ xs) ys h = let r = all_split P xs ys h.1 in ((h.0, r.0), r.1)
@@ -183,9 +180,6 @@ end_known g d e = go (ltb d.end (length g)) refl e
 
 pub ends-resolved : (g : Graph) → ends g (placed g) ≡ Ok tt → (p k : ℕ) (d : Dependency) → DependencyAt g p k d → d.end < length g
 ends-resolved g e p k d at = end_known g d (held-dependency (λ o x. unknown_end g x ≡ None) g (checked-all (λ x. unknown_end g x.part) (placed g) e) p k d at)
-
-pub ends-known : (g : Graph) → ends g (placed g) ≡ Ok tt → EndsKnown g
-ends-known g e p k l = ends-resolved g e p k (get_or (dependencies_of g p) k no_dependency) (l, refl)
 
 known-end : (g : Graph) (d : Dependency) → d.end < length g → unknown_end g (dependency d) ≡ None
 known-end g d l = cond-true _ _ _ (lt-ltb d.end (length g) l)

@@ -7,7 +7,7 @@ use Rattle.text.specs.Forms.{Form, plain, switch, strong, weak}
 use Rattle.records.specs.Graphs.{Dependency, Feature, Part, Graph}
 use Rattle.graph.specs.Law.{dependencies_in, features_in, Lawful}
 use Rattle.graph.specs.Places.{unit, dep, feat, parts_of, dependencies_of, features_of}
-use Rattle.graph.specs.Rules.{Rule, lane_of, no_dependency as no_lane, place_of, when_some, when, each, unless, ask_rule, dependency_rules, switch_rule, weak_rule, named, value_rules, feature_rules, package_rules, rules}
+use Rattle.graph.specs.Rules.{Rule, lane_of, place_of, when_some, when, each, unless, ask_rule, dependency_rules, switch_rule, weak_rule, named, value_rules, feature_rules, package_rules, rules}
 use Rattle.graph.specs.Directory.{no_dependency, no_feature}
 use Rattle.graph.specs.OpeningLaw.{In, DependencyAt, FeatureAt, NamedAt, Stands, needs, builds, defaults, asks, plainly, switches, joins, RulesLaw}
 use Rattle.graph.proofs.FeaturePlaces.{place-some, features-differ}
@@ -15,6 +15,7 @@ use Rattle.graph.proofs.Resolving.{place-name}
 
 -- what is in two lists put together, in what a list gives, and in a list of at most one
 
+-- of `In`, by recursion as the cases of a rule take it apart; the library's `Contains` goes by place
 in_left : {A : Type 0} (x : A) (xs ys : List A) → In x xs → In x (xs ++ ys)
 in_left x [] ys h = absurd h
 in_left x (y ∷ xs) ys h = ⊎_elim (λ (e : x ≡ y). inl e) (λ (m : In x xs). inr (in_left x xs ys m)) h
@@ -169,9 +170,9 @@ named-from g ρ p n f m =
 
 -- each rule of a dependency stands
 module _ (g : Graph) (ρ : Rule) (p k : ℕ) (d : Dependency) (at : DependencyAt g p k d) where
-  ask-from : (n : List ℕ) → In ρ (ask_rule g p k d n) → (j : ℕ) × NamedAt g d.end j n × (ρ ≡ record { from = dep p k; mate = None; to = feat d.end j; lane = lane_of g d; cross = true })
+  ask-from : (n : List ℕ) → In ρ (ask_rule g p k d n) → (j : ℕ) × NamedAt g d.end j n × (ρ ≡ record { from = dep p k; mate = None; to = feat d.end j; lane = Some (lane_of g d); cross = true })
   ask-from n m =
-      let r = some-from (place_of (features_of g d.end) n) (λ j. record { from = dep p k; mate = None; to = feat d.end j; lane = lane_of g d; cross = true }) ρ m in
+      let r = some-from (place_of (features_of g d.end) n) (λ j. record { from = dep p k; mate = None; to = feat d.end j; lane = Some (lane_of g d); cross = true }) ρ m in
       (r.0, place-named g d.end n r.0 r.1, r.2)
 
   dependency-stands : In ρ (dependency_rules g p k d) → Stands g ρ
@@ -198,10 +199,10 @@ module _ (g : Graph) (ρ : Rule) (p k : ℕ) (d : Dependency) (at : DependencyAt
       (in_either ρ (unless d.optional need) (build ∷ [] ++ (by_default ++ by_ask)) m)
     where
       need : Rule
-      need = record { from = unit p; mate = None; to = dep p k; lane = lane_of g d; cross = false }
+      need = record { from = unit p; mate = None; to = dep p k; lane = Some (lane_of g d); cross = false }
 
       build : Rule
-      build = record { from = dep p k; mate = None; to = unit d.end; lane = lane_of g d; cross = true }
+      build = record { from = dep p k; mate = None; to = unit d.end; lane = Some (lane_of g d); cross = true }
 
       by_default : List Rule
       by_default = cond d.defaults (ask_rule g p k d (codes "default")) []
@@ -213,17 +214,17 @@ module _ (g : Graph) (ρ : Rule) (p k : ℕ) (d : Dependency) (at : DependencyAt
 module _ (g : Graph) (ρ : Rule) (p j : ℕ) (f : Feature) (at : FeatureAt g p j f) where
   switch-stands : (n : List ℕ) → In (switch n) f.values ⊎ ((x : List ℕ) × In (strong n x) f.values) → (k : ℕ) (d : Dependency) → DependencyAt g p k d → d.name ≡ n → In ρ (switch_rule g p j k d) → Stands g ρ
   switch-stands n is k d dat e m =
-      let r = when-from d.optional (record { from = feat p j; mate = None; to = dep p k; lane = lane_of g d; cross = false }) ρ m in
+      let r = when-from d.optional (record { from = feat p j; mate = None; to = dep p k; lane = Some (lane_of g d); cross = false }) ρ m in
       subst (Stands g) (sym r.1) (switches at is dat e r.0)
 
   weak-stands : (n x : List ℕ) → In (strong n x) f.values ⊎ In (weak n x) f.values → (k : ℕ) (d : Dependency) → DependencyAt g p k d → d.name ≡ n → In ρ (weak_rule g p j x k d) → Stands g ρ
   weak-stands n x is k d dat e m =
-      let r = some-from (place_of (features_of g d.end) x) (λ i. record { from = feat p j; mate = Some (dep p k); to = feat d.end i; lane = lane_of g d; cross = true }) ρ m in
+      let r = some-from (place_of (features_of g d.end) x) (λ i. record { from = feat p j; mate = Some (dep p k); to = feat d.end i; lane = Some (lane_of g d); cross = true }) ρ m in
       subst (Stands g) (sym r.2) (joins at is dat e (place-named g d.end x r.0 r.1))
 
   value-stands : (v : Form (List ℕ)) → In v f.values → In ρ (value_rules g p j v) → Stands g ρ
   value-stands (plain n) is m =
-      let r = some-from (place_of (features_of g p) n) (λ i. record { from = feat p j; mate = None; to = feat p i; lane = no_lane; cross = false }) ρ m in
+      let r = some-from (place_of (features_of g p) n) (λ i. record { from = feat p j; mate = None; to = feat p i; lane = None; cross = false }) ρ m in
       subst (Stands g) (sym r.2) (plainly at is (place-named g p n r.0 r.1))
   value-stands (switch n) is m =
       let r = named-from g ρ p n (switch_rule g p j) m in
@@ -258,19 +259,19 @@ rule-stands g ρ m =
 
 -- what a dependency asks of its end, by default or by name, is among its rules
 module _ (g : Graph) (law : Lawful g) (p k : ℕ) (d : Dependency) where
-  in-ask : (n : List ℕ) (j : ℕ) → NamedAt g d.end j n → In (record { from = dep p k; mate = None; to = feat d.end j; lane = lane_of g d; cross = true }) (ask_rule g p k d n)
-  in-ask n j at = in_some (place_of (features_of g d.end) n) (λ i. record { from = dep p k; mate = None; to = feat d.end i; lane = lane_of g d; cross = true }) j (named-place g law d.end n j at)
+  in-ask : (n : List ℕ) (j : ℕ) → NamedAt g d.end j n → In (record { from = dep p k; mate = None; to = feat d.end j; lane = Some (lane_of g d); cross = true }) (ask_rule g p k d n)
+  in-ask n j at = in_some (place_of (features_of g d.end) n) (λ i. record { from = dep p k; mate = None; to = feat d.end i; lane = Some (lane_of g d); cross = true }) j (named-place g law d.end n j at)
 
   -- the two kinds of them come after the first two rules
   in-asked : (ρ : Rule) → In ρ (cond d.defaults (ask_rule g p k d (codes "default")) [] ++ flat_map (ask_rule g p k d) d.asks) → In ρ (dependency_rules g p k d)
-  in-asked ρ m = in_right ρ (unless d.optional (record { from = unit p; mate = None; to = dep p k; lane = lane_of g d; cross = false })) _ (inr m)
+  in-asked ρ m = in_right ρ (unless d.optional (record { from = unit p; mate = None; to = dep p k; lane = Some (lane_of g d); cross = false })) _ (inr m)
 
 -- each rule that stands is one of them
 pub stands-rule : (g : Graph) → Lawful g → (ρ : Rule) → Stands g ρ → In ρ (rules g)
 stands-rule g law _ (needs {p} {k} {d} at o) =
     in-dependency g _ p k d at (in_left _ (unless d.optional _) _ (in-unless d.optional _ o))
 stands-rule g law _ (builds {p} {k} {d} at) =
-    in-dependency g _ p k d at (in_right _ (unless d.optional (record { from = unit p; mate = None; to = dep p k; lane = lane_of g d; cross = false })) _ (inl refl))
+    in-dependency g _ p k d at (in_right _ (unless d.optional (record { from = unit p; mate = None; to = dep p k; lane = Some (lane_of g d); cross = false })) _ (inl refl))
 stands-rule g law _ (defaults {p} {k} {j} {d} at o n) =
     in-dependency g _ p k d at (in-asked g law p k d _ (in_left _ (cond d.defaults (ask_rule g p k d (codes "default")) []) _ (in-cond d.defaults _ _ o (in-ask g law p k d (codes "default") j n))))
 stands-rule g law _ (asks {p} {k} {j} {d} {n} at is m) =
@@ -285,7 +286,7 @@ stands-rule g law _ (switches {p} {j} {k} {f} {d} {n} at is dat e o) =
     is
   where
     ρ : Rule
-    ρ = record { from = feat p j; mate = None; to = dep p k; lane = lane_of g d; cross = false }
+    ρ = record { from = feat p j; mate = None; to = dep p k; lane = Some (lane_of g d); cross = false }
 stands-rule g law _ (joins {p} {j} {k} {i} {f} {d} {n} {x} at is dat e m) =
     ⊎_elim
     (λ (s : In (strong n x) f.values). in-value g ρ p j f (strong n x) at s
@@ -294,10 +295,10 @@ stands-rule g law _ (joins {p} {j} {k} {i} {f} {d} {n} {x} at is dat e m) =
     is
   where
     ρ : Rule
-    ρ = record { from = feat p j; mate = Some (dep p k); to = feat d.end i; lane = lane_of g d; cross = true }
+    ρ = record { from = feat p j; mate = Some (dep p k); to = feat d.end i; lane = Some (lane_of g d); cross = true }
 
     here : In ρ (weak_rule g p j x k d)
-    here = in_some (place_of (features_of g d.end) x) (λ a. record { from = feat p j; mate = Some (dep p k); to = feat d.end a; lane = lane_of g d; cross = true }) i (named-place g law d.end x i m)
+    here = in_some (place_of (features_of g d.end) x) (λ a. record { from = feat p j; mate = Some (dep p k); to = feat d.end a; lane = Some (lane_of g d); cross = true }) i (named-place g law d.end x i m)
 
 pub rules-law : (g : Graph) → Lawful g → RulesLaw g
 rules-law g law ρ = (rule-stands g ρ, stands-rule g law ρ)

@@ -1,33 +1,20 @@
 -- Rows laid into words.
-use Rattle.std.proofs.Common.{◌≡◌, ℕ, zero, suc, ◌+◌, ◌<◌, ◌≤◌, List, [], ◌∷◌, ◌++◌, length, get_or, take, drop, set, sym, refl, ap, ◌∙◌, arith}
+use Rattle.std.proofs.Common.{◌≡◌, ℕ, ◌+◌, ◌<◌, ◌≤◌, List, [], ◌∷◌, ◌++◌, length, get_or, drop, sym, refl, ap, ◌∙◌}
 use Rattle.std.proofs.lemmas.List.{at_drop_more, at_drop_all}
 use Rattle.graph.specs.declared.rows.Row.{Row}
 use Rattle.std.specs.List.{flat_map}
 use Rattle.graph.specs.Rules.{each}
-use Rattle.graph.specs.Sheets.{Sheet, put, lay, lays}
+use Rattle.graph.specs.declared.sheets.Sheet.{Sheet}
+use Rattle.graph.specs.Sheets.{lay, lays}
+
+-- a sheet stays the same reference
+pub lays-name : (s : Sheet) (rs : List Row) → (lays s rs).words.ghost_name ≡ s.words.ghost_name
+lays-name s [] = refl
+lays-name s (r ∷ rs) = lays-name (lay s r) rs
 
 pub lays-append : (s : Sheet) (xs ys : List Row) → lays s (xs ++ ys) ≡ lays (lays s xs) ys
 lays-append s [] ys = refl
 lays-append s (x ∷ xs) ys = lays-append (lay s x) xs ys
-
--- five writes in a row
-pub put_five : (at : ℕ) (ws : List ℕ) (a b c d e : ℕ) → at + 5 ≤ length ws → set (set (set (set (set ws at a) (at + 1) b) (at + 2) c) (at + 3) d) (at + 4) e ≡ put ws at (a ∷ b ∷ c ∷ d ∷ e ∷ [])
-put_five zero [] a b c d e l = absurd (omega arith)
-put_five zero (v ∷ []) a b c d e l = absurd (omega arith)
-put_five zero (v ∷ w ∷ []) a b c d e l = absurd (omega arith)
-put_five zero (v ∷ w ∷ x ∷ []) a b c d e l = absurd (omega arith)
-put_five zero (v ∷ w ∷ x ∷ y ∷ []) a b c d e l = absurd (omega arith)
-put_five zero (v ∷ w ∷ x ∷ y ∷ z ∷ ws) a b c d e l = refl
-put_five (suc n) [] a b c d e l = absurd (omega arith)
-put_five (suc n) (w ∷ ws) a b c d e l =
-    let p : suc n + 1 ≡ suc (n + 1) = omega arith in
-    let q : suc n + 2 ≡ suc (n + 2) = omega arith in
-    let r : suc n + 3 ≡ suc (n + 3) = omega arith in
-    let s : suc n + 4 ≡ suc (n + 4) = omega arith in
-    let t : suc (n + 5) ≡ suc n + 5 = omega arith in
-    (λ i. set (set (set (set (w ∷ set ws n a) (p i) b) (q i) c) (r i) d) (s i) e)
-    ∙ ap (λ x. w ∷ x) (put_five n ws a b c d e (omega arith))
-    ∙ (λ i. w ∷ (take n ws ++ (a ∷ b ∷ c ∷ d ∷ e ∷ drop (t i) (w ∷ ws))))
 
 -- a loop that lays what each element gives, with its place
 module _ {A : Type 0} (f : ℕ → A → List Row) (xs : List A) (d : A) (k : ℕ) (s : Sheet) (all : Sheet) (inv : lays s (each f k (drop k xs)) ≡ all) where

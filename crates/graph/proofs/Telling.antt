@@ -1,5 +1,5 @@
 -- What filled tables tell, by number.
-use Rattle.std.proofs.Common.{◌≡◌, ℕ, zero, suc, ◌+◌, ◌<◌, ◌≤◌, List, [], ◌∷◌, ◌++◌, length, get_or, sym, refl, ap, ◌∙◌, subst, arith}
+use Rattle.std.proofs.Common.{◌≡◌, ℕ, zero, suc, ◌+◌, ◌<◌, List, [], ◌∷◌, ◌++◌, length, get_or, sym, refl, ap, ◌∙◌, subst, arith}
 use Rattle.records.proofs.Numbers.{in-ok}
 use Rattle.records.specs.Graphs.{Part, dependency, feature, Package, Graph}
 use Rattle.records.specs.Encoding.{part_bytes, header_bytes, encode}
@@ -7,15 +7,15 @@ use Rattle.graph.specs.declared.contents.Counts.{Counts}
 use Rattle.graph.specs.declared.faults.FileFault.{FileFault}
 use Rattle.graph.specs.declared.index.Index.{Index}
 use Rattle.graph.specs.declared.tables.Directory.{Directory}
-use Rattle.graph.specs.Keys.{most_features}
 use Rattle.graph.specs.Law.{dependencies_in, features_in, Says}
 use Rattle.graph.specs.Places.{dependencies_of, features_of, proc_of, dependencies_before, features_before}
 use Rattle.graph.specs.Second.{Placed, placed_parts, placed_from, placed, package_record, parts_length}
-use Rattle.graph.specs.Views.{keys, Whole}
+use Rattle.graph.specs.Views.{keys}
 use Rattle.graph.specs.Directory.{Stands, no_package, no_part, no_dependency, no_feature, no_placed, Accepted, Tells}
 use Rattle.graph.specs.Filling.{Tables, tables_of, TellsParts, TellsGraph}
 use Rattle.graph.proofs.FirstComplete.{first-complete}
 
+-- three equal numbers at once, for three `subst` at each use
 moved : (k : ℕ → ℕ → ℕ → Type 0) (a b c x y z : ℕ) → a ≡ x → b ≡ y → c ≡ z → k a b c → k x y z
 moved k a b c x y z p q r h = subst (λ i. k i y z) p (subst (λ i. k a i z) q (subst (λ i. k a b i) r h))
 
@@ -179,8 +179,6 @@ directory-tells dir index counts same count h says told g a =
     subst (λ i. TellsGraph i.file.now (tables_of dir) 0 g (length header_bytes) 0 0) (sym same) (subst (λ x. TellsGraph index.file.now (tables_of dir) 0 x (length header_bytes) 0 0) one told) in
     record {
       says = subst (λ i. Says i.file.now g) (sym same) a.says;
-      whole = subst Whole (sym same) a.whole;
-      few = subst (λ i. i.count ≤ most_features) (sym same) a.few;
       keyed = ap keys same ∙ a.keyed;
       counted = count ∙ a.counted;
       packaged = package-entry dir.index.file.now (tables_of dir) g all;

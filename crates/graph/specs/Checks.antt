@@ -1,35 +1,14 @@
--- The checks of the second reading, of a record that is read again.
-use Rattle.std.specs.Prelude.{ℕ, ◌≤◌, length, Some, None, Ok, Err, Option, Result}
-use Rattle.records.specs.Graphs.{dependency, feature, Graph}
-use Rattle.records.specs.declared.faults.RecordFault.TheVariants.{Unknown}
-use Rattle.graph.specs.declared.faults.InRecord.{InRecord}
-use Rattle.graph.specs.Reading.{Content, header, heads, part, end}
-use Rattle.graph.specs.Second.{Placed, unknown_in, unknown_end, fault_at}
+-- What the closures of the second reading answer.
+use Rattle.std.specs.Prelude.{◌≡◌, ℕ, Bool, List, Option}
+use Rattle.std.specs.Borrow.{Bor}
+use Rattle.records.specs.Graphs.{Part}
+use Rattle.graph.specs.declared.contents.Owned as code
+use Rattle.graph.specs.Views.{owned_view}
 
--- the name of a record is no longer than a name may be
-abbrev pub NameShort : Content → Type 0
-NameShort header = Unit {0}
-NameShort (heads h) = Unit {0}
-NameShort (part (dependency d)) = length d.name ≤ 64
-NameShort (part (feature f)) = length f.name ≤ 64
-NameShort end = Unit {0}
+-- what a closure of the code answers is what this test answers: of a record that is read again, with the number of its
+-- package; and of a string
+abbrev pub AnswersAs : (ℕ → code.Owned → Option ℕ → Type 0) → (ℕ → Part → Option ℕ) → Type 0
+AnswersAs post test = (p : ℕ) (x : code.Owned) (r : Option ℕ) → post p x r → r ≡ test p (owned_view x)
 
-abbrev pub unknown_in_content : Graph → ℕ → Content → Option ℕ
-unknown_in_content g p header = None
-unknown_in_content g p (heads h) = None
-unknown_in_content g p (part q) = unknown_in g p q
-unknown_in_content g p end = None
-
-abbrev pub unknown_end_content : Graph → Content → Option ℕ
-unknown_end_content g header = None
-unknown_end_content g (heads h) = None
-unknown_end_content g (part q) = unknown_end g q
-unknown_end_content g end = None
-
--- what a check of one record answers
-abbrev pub one : (Placed → Option ℕ) → Placed → Result (Unit {0}) InRecord
-one test x = fault_at x (test x) (Ok tt)
-
-abbrev pub answer_of : ℕ → ℕ → Option ℕ → Result (Unit {0}) InRecord
-answer_of number start None = Ok tt
-answer_of number start (Some field) = Err (record { number = number; start = start; fault = Unknown field })
+abbrev pub KnowsAs : (Bor (List ℕ) → Bool → Type 0) → (List ℕ → Bool) → Type 0
+KnowsAs post test = (t : Bor (List ℕ)) (b : Bool) → post t b → b ≡ test t.now

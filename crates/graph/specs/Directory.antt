@@ -1,5 +1,5 @@
 -- What a directory tells of the graph of its file.
-use Rattle.std.specs.Prelude.{◌≡◌, ℕ, ◌+◌, ◌<◌, ◌≤◌, false, List, [], ◌++◌, length, drop, Ok, Err, Result, slice_index, slice_index_or}
+use Rattle.std.specs.Prelude.{◌≡◌, ℕ, ◌+◌, ◌<◌, false, List, [], ◌++◌, length, drop, Ok, Err, Result, slice_index, slice_index_or}
 use Rattle.records.specs.declared.bodies.Edge.TheVariants.{Normal}
 use Rattle.records.specs.Graphs.{Dependency, Feature, Part, dependency, feature, Graph}
 use Rattle.records.specs.Encoding.{part_bytes, encode}
@@ -9,13 +9,12 @@ use Rattle.graph.specs.declared.index.Index.{Index}
 use Rattle.graph.specs.declared.tables.PackageEntry.{PackageEntry}
 use Rattle.graph.specs.declared.tables.PartEntry.{PartEntry}
 use Rattle.graph.specs.declared.tables.Directory.{Directory}
-use Rattle.graph.specs.Keys.{most_features}
 use Rattle.graph.specs.Reading.{first_reading}
 use Rattle.graph.specs.Law.{LawfulPart, Says, dependency_count, feature_count}
 use Rattle.graph.specs.Gathered.{keys_from}
 use Rattle.graph.specs.Places.{dependencies_of, features_of, proc_of, dependencies_before, features_before}
 use Rattle.graph.specs.Second.{Placed, placed}
-use Rattle.graph.specs.Views.{keys, Whole}
+use Rattle.graph.specs.Views.{keys}
 
 -- the record of a lawful part begins at this place of the file
 pub record Stands (file : List ℕ) (start : ℕ) (p : Part) : Type 0 where
@@ -42,16 +41,12 @@ no_placed = record { number = 0; start = 0; owner = 0; part = dependency no_depe
 -- the first reading has accepted the graph g of the file, and leaves this index and these counts
 pub record Accepted (index : Index) (counts : Counts) (g : Graph) : Type 0 where
   pub says : Says index.file.now g
-  pub whole : Whole index
-  pub few : index.count ≤ most_features
   pub keyed : keys index ≡ keys_from 0 g
   pub counted : counts ≡ record { read = length (encode g); packages = length g; dependencies = dependency_count g; features = feature_count g }
 
 -- the directory is that of the graph g of its file
 pub record Tells (dir : Directory) (g : Graph) : Type 0 where
   pub says : Says dir.index.file.now g
-  pub whole : Whole dir.index
-  pub few : dir.index.count ≤ most_features
   pub keyed : keys dir.index ≡ keys_from 0 g
   pub counted : dir.counts ≡ record { read = length (encode g); packages = length g; dependencies = dependency_count g; features = feature_count g }
   pub packaged : (p : ℕ) → p < length g → slice_index_or dir.packages p no_package ≡ record { proc_mark = proc_of g p; dependency = dependencies_before g p; feature = features_before g p }
@@ -59,7 +54,7 @@ pub record Tells (dir : Directory) (g : Graph) : Type 0 where
   pub featuring : (p k : ℕ) → k < length (features_of g p) → Stands dir.index.file.now (slice_index dir.features (features_before g p + k)) (feature (slice_index_or (features_of g p) k no_feature))
   pub parted : (j : ℕ) → j < length (placed g) → Stands dir.index.file.now (slice_index_or dir.parts j no_part).start (slice_index_or (placed g) j no_placed).part × (slice_index_or dir.parts j no_part ≡ record { start = (slice_index_or (placed g) j no_placed).start; owner = (slice_index_or (placed g) j no_placed).owner })
 
--- what a reading that answers a directory answers
-abbrev pub ReadAs : List ℕ → Result Directory FileFault → Type 0
-ReadAs file (Ok dir) = (dir.index.file.now ≡ file) × ((g : Graph) × (first_reading file ≡ Ok (g, dir.counts.read)) × Tells dir g)
-ReadAs file (Err e) = first_reading file ≡ Err e
+-- what a reading answers, with the directory that it leaves
+abbrev pub ReadAs : List ℕ → Result (Unit {0}) FileFault → Directory → Type 0
+ReadAs file (Ok u) dir = (dir.index.file.now ≡ file) × ((g : Graph) × (first_reading file ≡ Ok (g, dir.counts.read)) × Tells dir g)
+ReadAs file (Err e) dir = first_reading file ≡ Err e

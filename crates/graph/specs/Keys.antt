@@ -1,7 +1,9 @@
 -- Features by package and name, and the index that finds them.
-use Rattle.std.specs.Prelude.{◌≡◌, ℕ, ◌+◌, ◌-◌, ◌*◌, ◌%◌, ◌<◌, ◌≤◌, Bool, true, false, ◌&&◌, ◌||◌, List, [], ◌∷◌, map, length, take, drop, Some, None, Option, ◌==◌, slice_index, slice_index_or}
+use Rattle.std.specs.Prelude.{◌≡◌, ℕ, ◌+◌, ◌*◌, ◌%◌, ◌<◌, Bool, true, false, ◌&&◌, ◌||◌, List, [], ◌∷◌, map, length, take, Some, None, Option, ◌==◌, slice_index_or}
+use Rattle.std.specs.List.{fold}
 use Rattle.std.specs.Str.{bytes_eq}
 use Rattle.graph.specs.declared.index.Entry.{Entry}
+use Rattle.graph.specs.declared.index.Key as code
 
 -- the package of a feature, and its name
 pub record Key : Type 0 where
@@ -16,46 +18,54 @@ has_key owner name [] = false
 has_key owner name (k ∷ ks) = is_key owner name k || has_key owner name ks
 
 -- the bucket of a feature
-abbrev pub hash_from : ℕ → List ℕ → ℕ
-hash_from h [] = h
-hash_from h (b ∷ bs) = hash_from ((h * 263 + b) % 32749) bs
+abbrev pub hash_step : ℕ → ℕ → ℕ
+hash_step h b = (h * 263 + b) % 32749
 
 abbrev pub bucket_of : ℕ → List ℕ → ℕ
-bucket_of owner name = hash_from (owner % 32749) name
+bucket_of owner name = fold hash_step (owner % 32749) name
 
--- the key that an entry tells
-abbrev pub key_of : List ℕ → Entry → Key
-key_of file e = record { owner = e.owner; name = take e.len (drop e.at file) }
+-- a key of the code
+abbrev pub key_view : code.Key → Key
+key_view k = record { owner = k.owner; name = k.name.now }
+
+abbrev pub key_of : Entry → Key
+key_of e = key_view e.key
 
 abbrev pub blank : Entry
-blank = record { owner = 0; at = 0; len = 0; next = 0 }
+blank = record { key = record { owner = 0; name = record { ref_ptr = (0, 0); now = [] } }; next = None }
 
 abbrev pub entry_at : List Entry → ℕ → Entry
 entry_at entries k = slice_index_or entries k blank
 
-abbrev pub keys_of : List ℕ → List Entry → ℕ → List Key
-keys_of file entries n = map (key_of file) (take n entries)
+abbrev pub keys_of : List Entry → ℕ → List Key
+keys_of entries n = map key_of (take n entries)
 
-abbrev pub bucket_at : List ℕ → List Entry → ℕ → ℕ
-bucket_at file entries k = bucket_of (key_of file (entry_at entries k)).owner (key_of file (entry_at entries k)).name
+abbrev pub bucket_at : List Entry → ℕ → ℕ
+bucket_at entries k = bucket_of (key_of (entry_at entries k)).owner (key_of (entry_at entries k)).name
 
 -- how many features the index has room for
 abbrev pub most_features : ℕ
 most_features = 16384
 
+-- one past a number, and 0 for none
+abbrev pub past : Option ℕ → ℕ
+past None = 0
+past (Some k) = k + 1
+
+abbrev pub head_of : List (Option ℕ) → ℕ → Option ℕ
+head_of heads h = slice_index_or heads h None
+
 -- The lists of the buckets are whole: of the first n features,
-pub record Linked (file : List ℕ) (entries : List Entry) (heads : List ℕ) (n : ℕ) : Type 0 where
+pub record Linked (entries : List Entry) (heads : List (Option ℕ)) (n : ℕ) : Type 0 where
   pub full : length entries ≡ most_features
-  -- each name lies in the file;
-  pub within : (k : ℕ) → k < n → (entry_at entries k).at + (entry_at entries k).len ≤ length file
   -- none is newer than the head of its bucket, which is one of that bucket;
-  pub newest : (k : ℕ) → k < n → k < slice_index heads (bucket_at file entries k)
-  pub headed : (h : ℕ) → 0 < slice_index heads h → (slice_index heads h ≤ n) × (bucket_at file entries (slice_index heads h - 1) ≡ h)
+  pub newest : (k : ℕ) → k < n → k < past (head_of heads (bucket_at entries k))
+  pub headed : (h k : ℕ) → head_of heads h ≡ Some k → (k < n) × (bucket_at entries k ≡ h)
   -- none of its bucket stands between one and the next one, which is older and of that bucket
-  pub between : (j k : ℕ) → j < k → k < n → bucket_at file entries j ≡ bucket_at file entries k → j < (entry_at entries k).next
-  pub nexted : (k : ℕ) → k < n → ((entry_at entries k).next ≤ k) × (0 < (entry_at entries k).next → bucket_at file entries ((entry_at entries k).next - 1) ≡ bucket_at file entries k)
+  pub between : (j k : ℕ) → j < k → k < n → bucket_at entries j ≡ bucket_at entries k → j < past (entry_at entries k).next
+  pub nexted : (k j : ℕ) → k < n → (entry_at entries k).next ≡ Some j → (j < k) × (bucket_at entries j ≡ bucket_at entries k)
 
 -- what a search among the first n features answers
-abbrev pub Finds : List ℕ → List Entry → ℕ → ℕ → List ℕ → Option ℕ → Type 0
-Finds file entries n owner name None = (k : ℕ) → k < n → is_key owner name (key_of file (entry_at entries k)) ≡ false
-Finds file entries n owner name (Some k) = (k < n) × (is_key owner name (key_of file (entry_at entries k)) ≡ true)
+abbrev pub Finds : List Entry → ℕ → ℕ → List ℕ → Option ℕ → Type 0
+Finds entries n owner name None = (k : ℕ) → k < n → is_key owner name (key_of (entry_at entries k)) ≡ false
+Finds entries n owner name (Some k) = (k < n) × (is_key owner name (key_of (entry_at entries k)) ≡ true)

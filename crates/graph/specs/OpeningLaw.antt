@@ -9,10 +9,10 @@ use Rattle.graph.specs.declared.rows.Opened.{Opened}
 use Rattle.graph.specs.Law.{Says}
 use Rattle.graph.specs.Directory.{no_dependency, no_feature}
 use Rattle.graph.specs.Places.{unit, dep, feat, dependencies_of, features_of}
-use Rattle.graph.specs.Rules.{Rule, lane_of, no_dependency as no_lane, rules, rows, graph_words}
+use Rattle.graph.specs.Rules.{Rule, lane_of, rules, rows, graph_words}
 use Rattle.graph.specs.Opening.{most_rows, over, opened_as}
 
--- x is one of these
+-- x is one of these: by recursion, and not by a place as the library's `Contains`, so that each rule's case takes it apart
 abbrev pub In : {A : Type 0} → A → List A → Type 0
 In x [] = ⊥
 In x (y ∷ ys) = (x ≡ y) ⊎ In x ys
@@ -68,25 +68,25 @@ pub record OpeningLaw (file words : List ℕ) (r : Result (Opened × List ℕ) F
 pub data Stands (g : Graph) : Rule → Type 0 where
   -- a unit needs its dependencies that are not optional
   needs : {p k : ℕ} {d : Dependency} → DependencyAt g p k d → d.optional ≡ false →
-      Stands g (record { from = unit p; mate = None; to = dep p k; lane = lane_of g d; cross = false })
+      Stands g (record { from = unit p; mate = None; to = dep p k; lane = Some (lane_of g d); cross = false })
   -- a dependency needs the unit of its end,
   builds : {p k : ℕ} {d : Dependency} → DependencyAt g p k d →
-      Stands g (record { from = dep p k; mate = None; to = unit d.end; lane = lane_of g d; cross = true })
+      Stands g (record { from = dep p k; mate = None; to = unit d.end; lane = Some (lane_of g d); cross = true })
   -- the feature default of its end, if it is wanted and there,
   defaults : {p k j : ℕ} {d : Dependency} → DependencyAt g p k d → d.defaults ≡ true → NamedAt g d.end j (codes "default") →
-      Stands g (record { from = dep p k; mate = None; to = feat d.end j; lane = lane_of g d; cross = true })
+      Stands g (record { from = dep p k; mate = None; to = feat d.end j; lane = Some (lane_of g d); cross = true })
   -- and the features that it asks for
   asks : {p k j : ℕ} {d : Dependency} {n : List ℕ} → DependencyAt g p k d → In n d.asks → NamedAt g d.end j n →
-      Stands g (record { from = dep p k; mate = None; to = feat d.end j; lane = lane_of g d; cross = true })
+      Stands g (record { from = dep p k; mate = None; to = feat d.end j; lane = Some (lane_of g d); cross = true })
   -- a plain value turns on a feature of the same package
   plainly : {p j i : ℕ} {f : Feature} {n : List ℕ} → FeatureAt g p j f → In (plain n) f.values → NamedAt g p i n →
-      Stands g (record { from = feat p j; mate = None; to = feat p i; lane = no_lane; cross = false })
+      Stands g (record { from = feat p j; mate = None; to = feat p i; lane = None; cross = false })
   -- a switch or a strong value turns on each optional dependency that it names
   switches : {p j k : ℕ} {f : Feature} {d : Dependency} {n : List ℕ} → FeatureAt g p j f → In (switch n) f.values ⊎ ((x : List ℕ) × In (strong n x) f.values) → DependencyAt g p k d → d.name ≡ n → d.optional ≡ true →
-      Stands g (record { from = feat p j; mate = None; to = dep p k; lane = lane_of g d; cross = false })
+      Stands g (record { from = feat p j; mate = None; to = dep p k; lane = Some (lane_of g d); cross = false })
   -- a strong or a weak value, with each dependency that it names, turns on the feature of its end
   joins : {p j k i : ℕ} {f : Feature} {d : Dependency} {n x : List ℕ} → FeatureAt g p j f → In (strong n x) f.values ⊎ In (weak n x) f.values → DependencyAt g p k d → d.name ≡ n → NamedAt g d.end i x →
-      Stands g (record { from = feat p j; mate = Some (dep p k); to = feat d.end i; lane = lane_of g d; cross = true })
+      Stands g (record { from = feat p j; mate = Some (dep p k); to = feat d.end i; lane = Some (lane_of g d); cross = true })
 
 -- the rules of a graph are exactly those that stand
 abbrev pub RulesLaw : Graph → Type 0

@@ -1,16 +1,10 @@
 -- Rows laid into words, one after the other.
 use Rattle.std.specs.Prelude.{ℕ, ◌+◌, ◌*◌, min, cond, List, [], ◌∷◌, ◌++◌, length, take, drop, nat_le}
+use Rattle.std.specs.Borrow.{MutBor}
 use Rattle.graph.specs.declared.rows.Row.{Row}
+use Rattle.graph.specs.declared.sheets.Sheet.{Sheet}
 use Rattle.graph.specs.Rules.{row_words}
 use Rattle.graph.specs.Opening.{most_rows}
-
--- words, and how many rows were laid into them; the count stops one past the limit
-pub record Sheet : Type 0 where
-  pub words : List ℕ
-  pub count : ℕ
-
-abbrev pub sheet : List ℕ → ℕ → Sheet
-sheet ws n = record { words = ws; count = n }
 
 -- five words at a place, where there is room for them
 abbrev pub put : List ℕ → ℕ → List ℕ → List ℕ
@@ -19,11 +13,16 @@ put ws at five = take at ws ++ (five ++ drop (at + 5) ws)
 abbrev pub laid_in : List ℕ → ℕ → Row → List ℕ
 laid_in ws n r = cond (nat_le ((4 + 5 * n) + 5) (length ws)) (put ws (4 + 5 * n) (row_words r)) ws
 
+-- the count stops one past the limit
 abbrev pub more : ℕ → ℕ
 more n = min (n + 1) (most_rows + 1)
 
+-- the same reference, to other words
+abbrev pub holding : MutBor (List ℕ) → List ℕ → MutBor (List ℕ)
+holding r ws = record { ref_ptr = r.ref_ptr; ghost_name = r.ghost_name; now = ws }
+
 abbrev pub lay : Sheet → Row → Sheet
-lay s r = record { words = laid_in s.words s.count r; count = more s.count }
+lay s r = record { words = holding s.words (laid_in s.words.now s.count r); count = more s.count }
 
 abbrev pub lays : Sheet → List Row → Sheet
 lays s [] = s

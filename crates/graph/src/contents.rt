@@ -2,6 +2,9 @@
 use records::bodies::{Dependency, Feature, Package};
 use records::frames::Frame;
 
+// Where the name of a feature begins in its record: after length, kind and the name's own length.
+pub(crate) const FEATURE_NAME: usize = 7;
+
 #[derive(Clone, Copy)]
 pub(crate) enum Content<'a> {
     Header,
@@ -9,6 +12,13 @@ pub(crate) enum Content<'a> {
     Dependency(Dependency<'a>),
     Feature(Feature<'a>),
     End,
+}
+
+// A dependency or feature record, which belongs to a package.
+#[derive(Clone, Copy)]
+pub(crate) enum Owned<'a> {
+    Dependency(Dependency<'a>),
+    Feature(Feature<'a>),
 }
 
 // A record that was found: what it says, and its frame.
@@ -19,7 +29,7 @@ pub(crate) struct Found<'a> {
 }
 
 // Where a reading stands: the number and the start of the next record, and how many packages and
-// dependencies are before it. The features before it are in the index.
+// dependencies are before it. The features before it are in the index, so that `Counts` would say too much.
 #[derive(Clone, Copy)]
 pub(crate) struct Stand {
     pub number: usize,
@@ -28,7 +38,8 @@ pub(crate) struct Stand {
     pub dependencies: u32,
 }
 
-// What a graph file has.
+// What a graph file has, all of it or so far: bytes that are read, packages, dependencies and features. What callers see
+// is `Opened`, with the rows, which are counted last.
 #[derive(Clone, Copy)]
 pub(crate) struct Counts {
     pub read: usize,

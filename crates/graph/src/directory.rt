@@ -1,6 +1,8 @@
 // Filling a directory: one pass over the records of a file that the first reading has accepted.
-ghost use Rattle.std.specs.Prelude.{◌≡◌, ◌+◌, length, drop, Ok, ◌≢◌};
-ghost use Rattle.records.specs.Frames.{frame as frame_view, frame_of};
+ghost use Rattle.std.specs.Prelude.{◌≡◌, ◌+◌, length, drop, Some, Ok, ◌≢◌};
+ghost use Rattle.records.specs.declared.frames.Kind.TheVariants.{End};
+ghost use Rattle.records.specs.Frames.{kind_at, frame as frame_view, frame_of};
+ghost use Rattle.records.specs.Encoding.{Bytes};
 ghost use Rattle.records.specs.Graphs.{Graph};
 ghost use Rattle.graph.specs.Directory.{Accepted, Tells, ReadAs};
 ghost use Rattle.graph.specs.Filling.{marked, tables_of, Midway};
@@ -10,30 +12,24 @@ use crate::faults::FileFault;
 use crate::index::{Index, MAX_FEATURES};
 use crate::reading::first_reading;
 use crate::tables::{
-    Directory, MAX_DEPENDENCIES, MAX_PACKAGES, MAX_PARTS, PackageEntry, PartEntry, Seat,
+    Directory, MAX_DEPENDENCIES, MAX_PACKAGES, MAX_PARTS, PackageEntry, PartEntry,
 };
-use records::frames::{Frame, first_frame};
+use records::frames::{Frame, Kind, first_frame};
 
 // The records after the header begin here.
 const HEADER_BYTES: usize = 8;
-
-// The kind of an end record.
-const END: u16 = 5;
 
 // Whether the first byte is 1, as the proc mark of a package is.
 fn is_marked(body: &[u8]) -> bool
     ensures { result ≡ marked body.now }
 {
-    match body {
-        [b, ..] => *b == 1,
-        [] => false,
-    }
+    matches!(body, [1, ..])
 }
 
 impl<'a> Directory<'a> {
-    // A directory with empty tables.
-    fn blank(index: Index<'a>, counts: Counts) -> Directory<'a>
-        ensures { (result.index ≡ index.entry) × (result.counts ≡ counts) }
+    // A directory with empty tables, for a file.
+    pub(crate) fn new(file: &'a [u8]) -> Directory<'a>
+        ensures { (result.index.file.now ≡ file.now) × (result.index.lists.count ≡ 0) }
     {
         let package = PackageEntry {
             proc_mark: false,
@@ -41,8 +37,14 @@ impl<'a> Directory<'a> {
             feature: 0,
         };
         let part = PartEntry { start: 0, owner: 0 };
+        let counts = Counts {
+            read: 0,
+            packages: 0,
+            dependencies: 0,
+            features: 0,
+        };
         Directory {
-            index,
+            index: Index::new(file),
             counts,
             packages: [package; MAX_PACKAGES],
             dependencies: [0; MAX_DEPENDENCIES],
@@ -52,76 +54,85 @@ impl<'a> Directory<'a> {
     }
 
     // A package, dependency or feature record goes into the tables.
-    fn note(&mut self, seat: Seat, frame: Frame<'a>) -> Seat
-        requires midway { Midway self.old.index.file.now (tables_of self.old) seat.start seat.packages seat.dependencies seat.features }
-        requires here { frame_of (drop seat.start self.old.index.file.now) ≡ Ok (frame_view frame) }
-        requires inside { frame.kind ≢ 5 }
+    fn note(&mut self, so_far: Counts, kind: Kind, frame: Frame<'a>) -> Counts
+        requires midway { Midway self.old.index.file.now (tables_of self.old) so_far.read so_far.packages so_far.dependencies so_far.features }
+        requires here { frame_of (drop so_far.read self.old.index.file.now) ≡ Ok (frame_view frame) }
+        requires kind { kind_at frame.kind ≡ Some kind }
+        requires inside { kind ≢ End }
         ensures same { (self.new.index ≡ self.old.index) × (self.new.counts ≡ self.old.counts) }
-        ensures start { result.start ≡ seat.start + (length frame.entry.body.now + 6) }
-        ensures midway { Midway self.new.index.file.now (tables_of self.new) result.start result.packages result.dependencies result.features }
+        ensures start { result.read ≡ so_far.read + (length frame.entry.body.now + 6) }
+        ensures midway { Midway self.new.index.file.now (tables_of self.new) result.read result.packages result.dependencies result.features }
     {
-        let mut after = seat;
-        after.start = seat.start + (frame.body.len() + 6);
+        let mut after = so_far;
+        after.read = so_far.read + (frame.body.len() + 6);
         let part = PartEntry {
-            start: seat.start as u32,
-            owner: seat.packages.saturating_sub(1),
+            // a file is shorter, so `try_from` would only add a fault that never comes
+            start: so_far.read as u32,
+            owner: so_far.packages.saturating_sub(1),
         };
-        let j = (seat.dependencies + seat.features) as usize;
-        match frame.kind {
-            2 => {
-                self.packages[seat.packages as usize] = PackageEntry {
+        let j = (so_far.dependencies + so_far.features) as usize;
+        match kind {
+            Kind::Package => {
+                self.packages[so_far.packages as usize] = PackageEntry {
                     proc_mark: is_marked(frame.body),
-                    dependency: seat.dependencies,
-                    feature: seat.features,
+                    dependency: so_far.dependencies,
+                    feature: so_far.features,
                 };
-                after.packages = seat.packages + 1;
+                after.packages = so_far.packages + 1;
             }
-            3 => {
-                self.dependencies[seat.dependencies as usize] = part.start;
+            Kind::Dependency => {
+                self.dependencies[so_far.dependencies as usize] = part.start;
                 self.parts[j] = part;
-                after.dependencies = seat.dependencies + 1;
+                after.dependencies = so_far.dependencies + 1;
             }
-            _ => {
-                self.features[seat.features as usize] = part.start;
+            Kind::Feature => {
+                self.features[so_far.features as usize] = part.start;
                 self.parts[j] = part;
-                after.features = seat.features + 1;
+                after.features = so_far.features + 1;
             }
+            Kind::Header | Kind::End => {}
         }
         after
     }
 
-    // The directory of a file that the first reading has accepted, with its index and counts.
-    pub(crate) fn of(index: Index<'a>, counts: Counts) -> Directory<'a>
-        requires { (g : Graph) × Accepted index counts g }
-        ensures told { (g : Graph) → Accepted index.entry counts g → Tells result g }
-        ensures kept { result.index ≡ index.entry }
+    // Fills the tables from the file, which the first reading has accepted with this index and these counts. It walks
+    // the records again, by the same `first_frame`, and refuses nothing, so that one walk for both would be none.
+    fn fill(&mut self)
+        requires { (g : Graph) × Accepted self.old.index self.old.counts g }
+        ensures told { (g : Graph) → Accepted self.old.index self.old.counts g → Tells self.new g }
+        ensures kept { (self.new.index ≡ self.old.index) × (self.new.counts ≡ self.old.counts) }
     {
-        let file = index.file;
-        let mut directory = Directory::blank(index, counts);
-        let mut seat = Seat {
-            start: HEADER_BYTES,
+        let file = self.index.file;
+        let mut so_far = Counts {
+            read: HEADER_BYTES,
             packages: 0,
             dependencies: 0,
             features: 0,
         };
+        // A record begins where the one before it ends, and that place is noted: an iterator would hand out both.
         loop {
-            let start = seat.start;
+            let start = so_far.read;
             let Ok(frame) = first_frame(&file[start..]) else {
-                return directory;
+                return;
             };
-            if frame.kind == END {
-                return directory;
+            let Ok(kind) = Kind::try_from(frame.kind) else {
+                return;
+            };
+            if kind == Kind::End {
+                return;
             }
-            seat = directory.note(seat, frame);
+            so_far = self.note(so_far, kind, frame);
         }
     }
 
-    // The first reading of a file, and its directory.
-    pub(crate) fn read(file: &'a [u8]) -> Result<Directory<'a>, FileFault>
-        ensures { ReadAs file.now result }
+    // The first reading of the file, which fills the tables of a directory that is new.
+    pub(crate) fn read(&mut self) -> Result<(), FileFault>
+        requires new { self.old.index.lists.count ≡ 0 }
+        requires bytes { Bytes self.old.index.file.now }
+        ensures { ReadAs self.old.index.file.now result self.new }
     {
-        let mut index = Index::new(file);
-        let counts = first_reading(&mut index)?;
-        Ok(Directory::of(index, counts))
+        self.counts = first_reading(&mut self.index)?;
+        self.fill();
+        Ok(())
     }
 }

@@ -5,14 +5,15 @@ ghost use Rattle.graph.specs.declared.faults.FileFault.TheVariants.{Record};
 use records::faults::RecordFault;
 
 // The fault of a record, with the record's number and its start in the file.
-#[derive(Clone, Copy)]
+// One generic struct for this and `InField` would name neither place.
+#[derive(Clone, Copy, PartialEq, Eq, Debug)]
 pub struct InRecord {
     pub number: usize,
     pub start: usize,
     pub fault: RecordFault,
 }
 
-#[derive(Clone, Copy)]
+#[derive(Clone, Copy, PartialEq, Eq, Debug)]
 pub enum FileFault {
     // the fault of a record
     Record(InRecord),

@@ -1,4 +1,7 @@
 // An index of the features of a graph file, by package and name.
+ghost use Rattle.std.specs.Prelude.{◌≤◌};
+ghost use Rattle.graph.specs.Keys.{Linked};
+ghost use Rattle.std.proofs.Props.{props};
 
 // The most features of a graph.
 pub const MAX_FEATURES: usize = 16_384;
@@ -6,21 +9,35 @@ pub const MAX_FEATURES: usize = 16_384;
 // How many lists the features are spread over.
 pub const BUCKETS: usize = 32_749;
 
-// A feature: the number of its package, the place and length of its name in the file, and the number of the
-// feature before it in its bucket's list, plus 1 (0 where there is none).
-#[derive(Clone, Copy)]
-pub struct Entry {
+// What a feature is found by: the number of its package, and its name.
+#[derive(Clone, Copy, PartialEq, Eq)]
+pub struct Key<'a> {
     pub owner: u32,
-    pub at: u32,
-    pub len: u32,
-    pub next: u32,
+    pub name: &'a [u8],
 }
 
-// The features so far, by number; and for each bucket the number of its newest feature, plus 1.
+// A feature, and the number of the feature before it in its bucket's list.
+#[derive(Clone, Copy)]
+pub struct Entry<'a> {
+    pub key: Key<'a>,
+    pub next: Option<u32>,
+}
+
+// The features so far, by number; and for each bucket the number of its newest feature. The memory is fixed, since the
+// library allocates nothing, so the lists are linked by number. They are a type of their own since `add` writes all
+// three fields before the lists are whole again.
+#[derive(Drop)]
+pub struct Lists<'a> {
+    pub count: u32,
+    pub entries: [Entry<'a>; MAX_FEATURES],
+    pub heads: [Option<u32>; BUCKETS],
+}
+
+// An index of the features of a file, whose lists are whole.
 #[derive(Drop)]
 pub struct Index<'a> {
     pub file: &'a [u8],
-    pub count: u32,
-    pub entries: [Entry; MAX_FEATURES],
-    pub heads: [u32; BUCKETS],
+    pub lists: Lists<'a>,
+    ghost few: { lists.count ≤ 16384 },
+    ghost linked: { Linked lists.entries lists.heads lists.count } by { Prim.hlevel props },
 }

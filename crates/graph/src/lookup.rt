@@ -1,116 +1,103 @@
 // Finding features in the index, and adding to it.
-ghost use Rattle.std.specs.Prelude.{◌≡◌, ℕ, ◌+◌, ◌<◌, ◌≤◌, List, [], ◌∷◌, ◌++◌, length, take, drop, nat_le};
-ghost use Rattle.std.specs.Str.{bytes_eq};
-ghost use Rattle.graph.specs.Keys.{is_key, has_key, key_of, keys_of, entry_at, bucket_of, most_features, Linked, Finds};
+ghost use Rattle.std.specs.Prelude.{◌≡◌, ℕ, ◌+◌, ◌<◌, [], ◌∷◌, ◌++◌, length, nat_le};
+ghost use Rattle.graph.specs.Keys.{is_key, has_key, key_of, key_view, keys_of, entry_at, bucket_of, most_features, Linked, Finds};
 
-use crate::index::{BUCKETS, Entry, Index, MAX_FEATURES};
-
-// Whether two names are the same.
-pub(crate) fn same(a: &[u8], b: &[u8]) -> bool
-    ensures { result ≡ bytes_eq a.now b.now }
-{
-    a == b
-}
+use crate::index::{BUCKETS, Entry, Index, Key, Lists, MAX_FEATURES};
 
 // The bucket of a feature.
-fn bucket(owner: u32, name: &[u8]) -> usize
-    ensures value { result ≡ bucket_of owner name.now }
+fn bucket(key: Key<'_>) -> usize
+    ensures value { result ≡ bucket_of key.entry.owner key.entry.name.now }
     ensures below { result < 32749 }
 {
-    let mut h = owner as usize % BUCKETS;
-    for b in name {
-        h = (h * 263 + usize::from(*b)) % BUCKETS;
+    key.name.iter().fold(
+        key.owner as usize % BUCKETS,
+        |h, b|
+            requires { h < 32749 }
+        { (h * 263 + usize::from(*b)) % BUCKETS },
+    )
+}
+
+impl<'a> Lists<'a> {
+    // One feature more.
+    fn add(&mut self, key: Key<'a>)
+        requires room { self.old.count < 16384 }
+        requires linked { Linked self.old.entries self.old.heads self.old.count }
+        ensures count { self.new.count ≡ self.old.count + 1 }
+        ensures keys { keys_of self.new.entries self.new.count ≡ keys_of self.old.entries self.old.count ++ key_view key.entry ∷ [] }
+        ensures linked { Linked self.new.entries self.new.heads self.new.count }
+    {
+        let h = bucket(key);
+        let k = self.count;
+        self.entries[k as usize] = Entry {
+            key,
+            next: self.heads[h],
+        };
+        self.heads[h] = Some(k);
+        self.count = k + 1;
     }
-    h
 }
 
 impl<'a> Index<'a> {
     // An index of no features.
     pub(crate) fn new(file: &'a [u8]) -> Index<'a>
-        ensures { (result.file.now ≡ file.now) × (result.count ≡ 0) × Linked file.now result.entries result.heads 0 }
+        ensures { (result.file.now ≡ file.now) × (result.lists.count ≡ 0) }
     {
-        let blank = Entry {
+        let key = Key {
             owner: 0,
-            at: 0,
-            len: 0,
-            next: 0,
+            name: &[],
         };
-        Index {
-            file,
+        let blank = Entry { key, next: None };
+        let lists = Lists {
             count: 0,
             entries: [blank; MAX_FEATURES],
-            heads: [0; BUCKETS],
-        }
+            heads: [None; BUCKETS],
+        };
+        Index { file, lists }
     }
 
     // Whether feature `k` is that of this package and name.
-    fn is_at(&self, k: usize, owner: u32, name: &[u8]) -> bool
-        requires linked { Linked self.now.file.now self.now.entries self.now.heads self.now.count }
-        requires within { (k < self.now.count) × (self.now.count ≤ 16384) }
-        ensures { result ≡ is_key owner name.now (key_of self.now.file.now (entry_at self.now.entries k)) }
+    fn is_at(&self, k: usize, key: Key<'_>) -> bool
+        requires { k < self.now.lists.count }
+        ensures { result ≡ is_key key.entry.owner key.entry.name.now (key_of (entry_at self.now.lists.entries k)) }
     {
-        let entry = self.entries[k];
-        let from = entry.at as usize;
-        let to = from + entry.len as usize;
-        entry.owner == owner && same(&self.file[from..to], name)
+        self.lists.entries[k].key == key
     }
 
     // The number of the feature of this package and name.
-    pub(crate) fn find(&self, owner: u32, name: &[u8]) -> Option<u32>
-        requires linked { Linked self.now.file.now self.now.entries self.now.heads self.now.count }
-        requires few { self.now.count ≤ 16384 }
-        ensures { Finds self.now.file.now self.now.entries self.now.count owner name.now result }
+    pub(crate) fn find(&self, key: Key<'_>) -> Option<u32>
+        ensures { Finds self.now.lists.entries self.now.lists.count key.entry.owner key.entry.name.now result }
     {
-        let mut upto = self.heads[bucket(owner, name)];
-        while upto > 0 {
-            let k = upto - 1;
-            if self.is_at(k as usize, owner, name) {
+        let mut at = self.lists.heads[bucket(key)];
+        while let Some(k) = at {
+            if self.is_at(k as usize, key) {
                 return Some(k);
             }
-            upto = self.entries[k as usize].next;
+            at = self.lists.entries[k as usize].next;
         }
         None
     }
 
     // Whether there is a feature of this package and name.
-    pub(crate) fn has(&self, owner: u32, name: &[u8]) -> bool
-        requires linked { Linked self.now.file.now self.now.entries self.now.heads self.now.count }
-        requires few { self.now.count ≤ 16384 }
-        ensures { result ≡ has_key owner name.now (keys_of self.now.file.now self.now.entries self.now.count) }
+    pub(crate) fn has(&self, key: Key<'_>) -> bool
+        ensures { result ≡ has_key key.entry.owner key.entry.name.now (keys_of self.now.lists.entries self.now.lists.count) }
     {
-        self.find(owner, name).is_some()
+        self.find(key).is_some()
     }
 
     // Whether there is no room for a feature more.
     pub(crate) fn is_full(&self) -> bool
-        requires linked { Linked self.now.file.now self.now.entries self.now.heads self.now.count }
-        requires few { self.now.count ≤ 16384 }
-        ensures { result ≡ nat_le most_features (length (keys_of self.now.file.now self.now.entries self.now.count)) }
+        ensures { result ≡ nat_le most_features (length (keys_of self.now.lists.entries self.now.lists.count)) }
     {
-        self.count as usize >= MAX_FEATURES
+        self.lists.count as usize >= MAX_FEATURES
     }
 
-    // One feature more: its package, and the place and length of its name.
-    pub(crate) fn add(&mut self, owner: u32, at: u32, len: u32)
-        requires linked { Linked self.old.file.now self.old.entries self.old.heads self.old.count }
-        requires room { (self.old.count < 16384) × (at + len ≤ length self.old.file.now) }
+    // One feature more.
+    pub(crate) fn add(&mut self, key: Key<'a>)
+        requires room { self.old.lists.count < 16384 }
         ensures file { self.new.file.now ≡ self.old.file.now }
-        ensures count { self.new.count ≡ self.old.count + 1 }
-        ensures keys { keys_of self.old.file.now self.new.entries self.new.count ≡ keys_of self.old.file.now self.old.entries self.old.count ++ record { owner = owner; name = take len (drop at self.old.file.now) } ∷ [] }
-        ensures linked { Linked self.new.file.now self.new.entries self.new.heads self.new.count }
+        ensures count { self.new.lists.count ≡ self.old.lists.count + 1 }
+        ensures keys { keys_of self.new.lists.entries self.new.lists.count ≡ keys_of self.old.lists.entries self.old.lists.count ++ key_view key.entry ∷ [] }
     {
-        let from = at as usize;
-        let to = from + len as usize;
-        let h = bucket(owner, &self.file[from..to]);
-        let next = self.heads[h];
-        let k = self.count;
-        self.entries[k as usize] = Entry {
-            owner,
-            at,
-            len,
-            next,
-        };
-        self.heads[h] = k + 1;
-        self.count = k + 1;
+        self.lists.add(key)
     }
 }

@@ -1,16 +1,17 @@
 // The first reading: each record is well formed, and may stand where it stands.
-ghost use Rattle.std.specs.Prelude.{◌≡◌, ◌+◌, ◌-◌, ◌^◌, ◌<◌, ◌≤◌, length};
+ghost use Rattle.std.specs.Prelude.{◌≡◌, ◌+◌, ◌-◌, ◌^◌, ◌<◌, ◌≤◌, length, ok_or};
+ghost use Rattle.records.specs.declared.faults.RecordFault.TheVariants.{Stray};
 ghost use Rattle.text.specs.Views.{mapped};
 ghost use Rattle.records.specs.Frames.{frame as frame_view};
 ghost use Rattle.records.specs.Fields.{view, outcome_by};
 ghost use Rattle.records.specs.Bodies.{feature_view};
 ghost use Rattle.graph.specs.Reading.{kind_here, feature_field, content_of, record_at, is_end, after};
 ghost use Rattle.graph.specs.Gathered.{gathered_by, gathered_in, Featured};
-ghost use Rattle.graph.specs.Views.{content_view, found_view, stand_view, keys, Whole, Fits, located as located_in};
+ghost use Rattle.graph.specs.Views.{content_view, found_view, stand_view, keys, Fits, located as located_in};
 
 use crate::contents::{Content, Counts, Found, Stand};
 use crate::faults::{FileFault, InRecord};
-use crate::index::Index;
+use crate::index::{Index, Key};
 use crate::tables::{MAX_DEPENDENCIES, MAX_PACKAGES};
 use records::bodies::Feature;
 use records::faults::RecordFault;
@@ -19,26 +20,20 @@ use records::reader::Reader;
 
 const MAX_BYTES: usize = 1_048_576;
 
-const MOST_PACKAGES: u32 = MAX_PACKAGES as u32;
-
-const MOST_DEPENDENCIES: u32 = MAX_DEPENDENCIES as u32;
-
-// Where the name of a feature begins in its record: after length, kind and the name's own length.
-const NAME_PLACE: usize = 7;
-
 // The kind of a record, if it may stand here.
-fn kind_here(number: usize, packages: u32, kind: u16) -> Option<Kind>
-    ensures { result ≡ kind_here number packages kind }
+fn kind_here(number: usize, packages: u32, kind: u16) -> Result<Kind, RecordFault>
+    ensures { result ≡ ok_or (kind_here number packages kind) Stray }
 {
-    match (number, packages, kind) {
-        (0, _, 1) => Some(Kind::Header),
-        (0, _, _) => None,
-        (_, _, 2) => Some(Kind::Package),
-        (_, _, 5) => Some(Kind::End),
-        (_, 0, _) => None,
-        (_, _, 3) => Some(Kind::Dependency),
-        (_, _, 4) => Some(Kind::Feature),
-        _ => None,
+    let kind = Kind::try_from(kind)?;
+    let may_stand = match kind {
+        Kind::Header => number == 0,
+        Kind::Package | Kind::End => number > 0,
+        Kind::Dependency | Kind::Feature => number > 0 && packages > 0,
+    };
+    if may_stand {
+        Ok(kind)
+    } else {
+        Err(RecordFault::Stray)
     }
 }
 
@@ -48,12 +43,13 @@ fn feature<'a>(
     owner: u32,
     body: &mut Reader<'a>,
 ) -> Result<Feature<'a>, RecordFault>
-    requires whole { Whole index.now }
-    requires few { index.now.count ≤ 16384 }
     ensures { outcome_by feature_view result (view body.new) ≡ feature_field (keys index.now) owner (view body.old) }
 {
     let name = body.name()?;
-    if index.has(owner, name.bytes) {
+    if index.has(Key {
+        owner,
+        name: name.bytes,
+    }) {
         return Err(RecordFault::Twice { field: name.at });
     }
     let values = body.values()?;
@@ -66,14 +62,10 @@ fn content<'a>(
     stand: Stand,
     frame: Frame<'a>,
 ) -> Result<Content<'a>, RecordFault>
-    requires whole { Whole index.now }
-    requires few { index.now.count ≤ 16384 }
     requires small { length frame.body.now + 6 < 2 ^ 63 }
     ensures { mapped content_view result ≡ content_of (stand_view stand (keys index.now)) (frame_view frame.entry) }
 {
-    let Some(kind) = kind_here(stand.number, stand.packages, frame.kind) else {
-        return Err(RecordFault::Stray);
-    };
+    let kind = kind_here(stand.number, stand.packages, frame.kind)?;
     let mut body = Reader {
         rest: frame.body,
         at: 6,
@@ -83,9 +75,11 @@ fn content<'a>(
             body.header()?;
             Ok(Content::Header)
         }
-        Kind::Package if stand.packages >= MOST_PACKAGES => Err(RecordFault::Many),
+        Kind::Package if stand.packages as usize >= MAX_PACKAGES => Err(RecordFault::Many),
         Kind::Package => Ok(Content::Package(body.package()?)),
-        Kind::Dependency if stand.dependencies >= MOST_DEPENDENCIES => Err(RecordFault::Many),
+        Kind::Dependency if stand.dependencies as usize >= MAX_DEPENDENCIES => Err(
+            RecordFault::Many,
+        ),
         Kind::Dependency => Ok(Content::Dependency(body.dependency()?)),
         Kind::Feature if index.is_full() => Err(RecordFault::Many),
         Kind::Feature => {
@@ -103,20 +97,15 @@ fn content<'a>(
 fn located<T>(stand: Stand, answer: Result<T, RecordFault>) -> Result<T, InRecord>
     ensures { result ≡ located_in stand answer }
 {
-    match answer {
-        Ok(x) => Ok(x),
-        Err(fault) => Err(InRecord {
-            number: stand.number,
-            start: stand.start,
-            fault,
-        }),
-    }
+    answer.map_err(|fault| InRecord {
+        number: stand.number,
+        start: stand.start,
+        fault,
+    })
 }
 
 // The record at the front of the bytes.
 fn read_record<'a>(index: &Index<'a>, stand: Stand, bytes: &'a [u8]) -> Result<Found<'a>, InRecord>
-    requires whole { Whole index.now }
-    requires few { index.now.count ≤ 16384 }
     requires small { length bytes.now < 2 ^ 62 }
     ensures { mapped found_view result ≡ record_at (stand_view stand (keys index.now)) bytes.now }
 {
@@ -127,13 +116,10 @@ fn read_record<'a>(index: &Index<'a>, stand: Stand, bytes: &'a [u8]) -> Result<F
 
 // How the reading stands after a record. A feature goes into the index.
 fn noted<'a>(index: &mut Index<'a>, stand: Stand, found: Found<'a>) -> Stand
-    requires whole { Whole index.old }
-    requires fits { Fits index.old.file.now index.old.count stand.start found.content }
+    requires fits { Fits index.old.lists.count found.content }
     requires small { (stand.start + (length found.frame.body.now + 6) ≤ 1048576) × (stand.number ≤ 1048576) × (stand.packages ≤ 1048576) × (stand.dependencies ≤ 1048576) × (length index.old.file.now ≤ 1048576) }
     ensures stand { stand_view result (keys index.new) ≡ after (stand_view stand (keys index.old)) (found_view found.entry) }
-    ensures whole { Whole index.new }
     ensures file { index.new.file.now ≡ index.old.file.now }
-    ensures few { index.old.count ≤ 16384 → index.new.count ≤ 16384 }
 {
     let number = stand.number + 1;
     let start = stand.start + (found.frame.body.len() + 6);
@@ -144,9 +130,10 @@ fn noted<'a>(index: &mut Index<'a>, stand: Stand, found: Found<'a>) -> Stand
         Content::Package(_) => packages += 1,
         Content::Dependency(_) => dependencies += 1,
         Content::Feature(f) => {
-            let at = stand.start + NAME_PLACE;
-            let len = f.name.bytes.len();
-            index.add(packages.saturating_sub(1), at as u32, len as u32);
+            index.add(Key {
+                owner: packages.saturating_sub(1),
+                name: f.name.bytes,
+            });
         }
     }
     Stand {
@@ -160,22 +147,15 @@ fn noted<'a>(index: &mut Index<'a>, stand: Stand, found: Found<'a>) -> Stand
 fn is_end(content: Content) -> bool
     ensures { result ≡ is_end (content_view content.entry) }
 {
-    match content {
-        Content::End => true,
-        Content::Header | Content::Package(_) | Content::Dependency(_) | Content::Feature(_) =>
-            false,
-    }
+    matches!(content, Content::End)
 }
 
 // The first reading of the file that an empty index is for. It fills the index.
 pub(crate) fn first_reading<'a>(index: &mut Index<'a>) -> Result<Counts, FileFault>
-    requires whole { Whole index.old }
-    requires empty { index.old.count ≡ 0 }
+    requires empty { index.old.lists.count ≡ 0 }
     ensures value { gathered_by result (keys index.new) ≡ gathered_in index.old.file.now }
-    ensures whole { Whole index.new }
     ensures file { index.new.file.now ≡ index.old.file.now }
-    ensures few { index.new.count ≤ 16384 }
-    ensures featured { Featured result index.new.count }
+    ensures featured { Featured result index.new.lists.count }
 {
     let file = index.file;
     if file.len() > MAX_BYTES {
@@ -187,6 +167,7 @@ pub(crate) fn first_reading<'a>(index: &mut Index<'a>) -> Result<Counts, FileFau
         packages: 0,
         dependencies: 0,
     };
+    // A record begins where the one before it ends, and its number and place go into its refusal.
     loop {
         let start = stand.start;
         let found = read_record(index, stand, &file[start..])?;
@@ -195,7 +176,7 @@ pub(crate) fn first_reading<'a>(index: &mut Index<'a>) -> Result<Counts, FileFau
                 read: start + (found.frame.body.len() + 6),
                 packages: stand.packages,
                 dependencies: stand.dependencies,
-                features: index.count,
+                features: index.lists.count,
             });
         }
         stand = noted(index, stand, found);

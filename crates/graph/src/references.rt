@@ -1,194 +1,94 @@
 // The second reading of a file: ends, asks and feature strings, in file order.
-ghost use Rattle.std.specs.Prelude.{◌≡◌, ◌+◌, ◌<◌, ◌≤◌, length, slice_index_or};
-ghost use Rattle.text.specs.Forms.{spell};
-ghost use Rattle.records.specs.Bodies.{texts, forms};
-ghost use Rattle.graph.specs.Checks.{NameShort, unknown_in_content, unknown_end_content, one, answer_of};
-ghost use Rattle.graph.specs.Directory.{no_placed};
-ghost use Rattle.graph.specs.Laying.{its, Told};
-ghost use Rattle.graph.specs.Places.{features_of};
-ghost use Rattle.graph.specs.Reading.{part};
-ghost use Rattle.graph.specs.Second.{has_feature, known as known_in, first_unknown, unknown_in, unknown_end, placed, ends, references, second_reading};
-ghost use Rattle.graph.specs.Views.{content_view};
+ghost use Rattle.std.specs.Prelude.{◌≡◌, ℕ, ◌+◌, ◌^◌, ◌<◌, Bool, List, Option, length};
+ghost use Rattle.records.specs.Bodies.{texts};
+ghost use Rattle.records.specs.Graphs.{Part};
+ghost use Rattle.graph.specs.Checks.{AnswersAs, KnowsAs};
+ghost use Rattle.graph.specs.Laying.{its};
+ghost use Rattle.graph.specs.Second.{first_unknown, unknown_in, unknown_end, checked, placed, second_reading};
+ghost use Rattle.graph.specs.Views.{owned_view};
 
-use crate::contents::Content;
+use crate::contents::{FEATURE_NAME, Owned};
 use crate::faults::InRecord;
-use crate::parts::part_at;
-use crate::tables::{Directory, PartEntry};
-use records::bodies::{Dependency, Feature};
+use crate::filled::Filled;
 use records::faults::RecordFault;
+use records::strings::Strings;
 
 // Where in its record the end of a dependency stands.
 const END_PLACE: usize = 6;
 
-// Where in its record the name of a dependency begins, and that of a feature.
+// Where in its record the name of a dependency begins.
 const DEPENDENCY_NAME: usize = 12;
 
-const FEATURE_NAME: usize = 7;
-
-// What a check of record `j` answers.
-fn answered(j: u32, entry: PartEntry, unknown: Option<usize>) -> Result<(), InRecord>
-    requires { (j ≤ 32768) × (entry.owner ≤ 4096) }
-    ensures { result ≡ answer_of ((j + entry.owner) + 2) entry.start unknown }
+// The place of the first of some strings, which begin at a place of their record, that is not known.
+fn first_unknown<F: Fn(&[u8]) -> bool>(strings: Strings, at: usize, known: F) -> Option<usize>
+    requires callable { F.IsAlwaysCallable known }
+    requires small { at < 2 ^ 63 + 256 }
+    ensures { (test : List ℕ → Bool) → KnowsAs (F.post known) test → result ≡ first_unknown test length at (texts strings.entry) }
 {
-    let number = (j + entry.owner) as usize + 2;
-    let start = entry.start as usize;
-    match unknown {
-        None => Ok(()),
-        Some(field) => {
-            let fault = RecordFault::Unknown { field };
-            Err(InRecord {
-                number,
-                start,
-                fault,
-            })
+    let mut at = at;
+    for text in strings {
+        if !known(text) {
+            return Some(at + 1);
         }
+        at = at + 1 + text.len();
     }
+    None
 }
 
-impl<'a> Directory<'a> {
-    // The place of the first ask of a dependency that is no feature of its end.
-    fn unknown_ask(&self, d: Dependency) -> Option<usize>
-        requires told { Told self.now }
-        requires short { length d.name.bytes.now ≤ 64 }
-        ensures { result ≡ first_unknown (has_feature (features_of (its self.now) d.entry.end)) length ((12 + length d.entry.name.bytes.now) + 1) (texts d.entry.asks) }
-    {
-        let end = u32::from(d.end);
-        let mut asks = d.asks;
-        let mut at = DEPENDENCY_NAME + d.name.bytes.len() + 1;
-        while let Some(name) = asks.next() {
-            if !self.has_feature(end, name) {
-                return Some(at + 1);
-            }
-            at = at + 1 + name.len();
-        }
-        None
-    }
-
-    // The place of the first value of a feature that names something that is not there.
-    fn unknown_value(&self, p: u32, f: Feature) -> Option<usize>
-        requires told { Told self.now }
-        requires within { p < length (its self.now) }
-        requires short { length f.name.bytes.now ≤ 64 }
-        ensures { result ≡ first_unknown (known_in (its self.now) p) (λ v. length (spell v)) ((7 + length f.entry.name.bytes.now) + 1) (forms f.entry.values) }
-    {
-        let mut values = f.values;
-        let mut at = FEATURE_NAME + f.name.bytes.len() + 1;
-        while let Some(text) = values.next() {
-            if !self.known(p, text) {
-                return Some(at + 1);
-            }
-            at = at + 1 + text.len();
-        }
-        None
-    }
-
+impl<'a> Filled<'a> {
     // The place of the first unknown string of a record.
-    fn unknown_in(&self, p: u32, content: Content) -> Option<usize>
-        requires told { Told self.now }
-        requires within { p < length (its self.now) }
-        requires short { NameShort (content_view content) }
-        ensures { result ≡ unknown_in_content (its self.now) p (content_view content.entry) }
+    fn unknown_in(&self, p: u32, part: Owned) -> Option<usize>
+        ensures { result ≡ unknown_in (its self.now) p (owned_view part.entry) }
     {
-        match content {
-            Content::Dependency(d) => self.unknown_ask(d),
-            Content::Feature(f) => self.unknown_value(p, f),
-            Content::Header | Content::Package(_) | Content::End => None,
+        match part {
+            Owned::Dependency(d) => {
+                let at = DEPENDENCY_NAME + d.name.bytes.len() + 1;
+                first_unknown(d.asks, at, |name| self.has_feature(u32::from(d.end), name))
+            }
+            Owned::Feature(f) => {
+                let at = FEATURE_NAME + f.name.bytes.len() + 1;
+                first_unknown(f.values, at, |text| self.known(p, text))
+            }
         }
     }
 
     // The place of the end of a dependency, if it is no package.
-    fn unknown_end(&self, content: Content) -> Option<usize>
-        requires told { Told self.now }
-        ensures { result ≡ unknown_end_content (its self.now) (content_view content.entry) }
+    fn unknown_end(&self, part: Owned) -> Option<usize>
+        ensures { result ≡ unknown_end (its self.now) (owned_view part.entry) }
     {
-        let Content::Dependency(d) = content else {
-            return None;
-        };
-        if u32::from(d.end) < self.counts.packages {
-            return None;
+        match part {
+            Owned::Dependency(d) if u32::from(d.end) >= self.directory.counts.packages => {
+                Some(END_PLACE)
+            }
+            _ => None,
         }
-        Some(END_PLACE)
     }
 
-    // How many dependency and feature records there are.
-    fn part_count(&self) -> u32
-        requires told { Told self.now }
-        ensures { result ≡ length (placed (its self.now)) }
+    // Asks each record, with the number of its package, for the place of something unknown.
+    fn check<F: Fn(u32, Owned<'a>) -> Option<usize>>(&self, unknown: F) -> Result<(), InRecord>
+        requires { F.IsAlwaysCallable unknown }
+        ensures { (test : ℕ → Part → Option ℕ) → AnswersAs (F.post unknown) test → result ≡ checked (λ x. test x.owner x.part) (placed (its self.now)) }
     {
-        self.counts.dependencies + self.counts.features
-    }
-
-    // Where record `j` of the dependencies and features stands.
-    fn entry(&self, j: u32) -> PartEntry
-        requires told { Told self.now }
-        requires within { j < length (placed (its self.now)) }
-        ensures value { (result.start ≡ (slice_index_or (placed (its self.now)) j no_placed).start) × (result.owner ≡ (slice_index_or (placed (its self.now)) j no_placed).owner) }
-        ensures owner { (result.owner < length (its self.now)) × (result.owner ≤ 4096) × (j ≤ 32768) }
-        ensures start { result.start ≤ length self.now.index.file.now }
-    {
-        self.parts[j as usize]
-    }
-
-    // What record `j` of the dependencies and features says.
-    fn content(&self, j: u32) -> Content<'a>
-        requires told { Told self.now }
-        requires within { j < length (placed (its self.now)) }
-        ensures value { content_view result ≡ part (slice_index_or (placed (its self.now)) j no_placed).part }
-        ensures short { NameShort (content_view result) }
-    {
-        let entry = self.entry(j);
-        part_at(self.index.file, entry.start as usize)
-    }
-
-    // Whether the end of record `j` is a package.
-    fn check_end(&self, j: u32) -> Result<(), InRecord>
-        requires told { Told self.now }
-        requires within { j < length (placed (its self.now)) }
-        ensures { result ≡ one (λ x. unknown_end (its self.now) x.part) (slice_index_or (placed (its self.now)) j no_placed) }
-    {
-        let unknown = self.unknown_end(self.content(j));
-        answered(j, self.entry(j), unknown)
-    }
-
-    // Whether the asks or feature strings of record `j` name what is there.
-    fn check_reference(&self, j: u32) -> Result<(), InRecord>
-        requires told { Told self.now }
-        requires within { j < length (placed (its self.now)) }
-        ensures { result ≡ one (λ x. unknown_in (its self.now) x.owner x.part) (slice_index_or (placed (its self.now)) j no_placed) }
-    {
-        let entry = self.entry(j);
-        let unknown = self.unknown_in(entry.owner, self.content(j));
-        answered(j, entry, unknown)
-    }
-
-    // All ends.
-    fn check_ends(&self) -> Result<(), InRecord>
-        requires told { Told self.now }
-        ensures { result ≡ ends (its self.now) (placed (its self.now)) }
-    {
-        for j in 0..self.part_count() {
-            self.check_end(j)?;
-        }
-        Ok(())
-    }
-
-    // All asks and feature strings.
-    fn check_references(&self) -> Result<(), InRecord>
-        requires told { Told self.now }
-        ensures { result ≡ references (its self.now) (placed (its self.now)) }
-    {
-        for j in 0..self.part_count() {
-            self.check_reference(j)?;
+        for (j, entry) in self.parts().iter().enumerate() {
+            let Some(part) = self.part_at(entry.start) else {
+                continue;
+            };
+            if let Some(field) = unknown(entry.owner, part) {
+                return Err(InRecord {
+                    number: j + entry.owner as usize + 2,
+                    start: entry.start as usize,
+                    fault: RecordFault::Unknown { field },
+                });
+            }
         }
         Ok(())
     }
 
     // The second reading.
     pub(crate) fn second_reading(&self) -> Result<(), InRecord>
-        requires told { Told self.now }
         ensures { result ≡ second_reading (its self.now) }
     {
-        self.check_ends()?;
-        self.check_references()
+        self.check(|_p, part| self.unknown_end(part))?;
+        self.check(|p, part| self.unknown_in(p, part))
     }
 }

@@ -8,6 +8,7 @@ use text::faults::StringFault;
 
 // The number of the refusal; the number of the record at fault and its start in the file; the place of the field in
 // the record; and the place in the string. What does not apply is 0.
+// Numbers and zeros are those of the table of refusals, as they are printed; the enum is `FileFault`.
 #[derive(Clone, Copy, PartialEq, Eq, Debug)]
 pub struct Refusal {
     pub number: u32,
@@ -25,6 +26,7 @@ fn prefix_of(fault: StringFault) -> usize
     }
 }
 
+// The one place that gives the numbers of the table.
 fn number_of(fault: RecordFault) -> u32
     ensures { result ≡ number_of fault }
 {
@@ -75,25 +77,26 @@ fn about_file(number: u32) -> Refusal
     }
 }
 
-// The refusal of a fault.
-pub fn refusal_of(fault: FileFault) -> Refusal
-    ensures { result ≡ refusal_of fault }
-{
-    match fault {
-        FileFault::Record(
-            InRecord {
-                number,
+impl From<FileFault> for Refusal {
+    ghost from_gives = { λ fault refusal. refusal ≡ refusal_of fault };
+
+    fn from(fault: FileFault) -> Refusal {
+        match fault {
+            FileFault::Record(
+                InRecord {
+                    number,
+                    start,
+                    fault,
+                },
+            ) => Refusal {
+                number: number_of(fault),
+                record: number,
                 start,
-                fault,
+                field: field_of(fault),
+                prefix: prefix_in(fault),
             },
-        ) => Refusal {
-            number: number_of(fault),
-            record: number,
-            start,
-            field: field_of(fault),
-            prefix: prefix_in(fault),
-        },
-        FileFault::Size | FileFault::Rows => about_file(8),
-        FileFault::Memory => about_file(9),
+            FileFault::Size | FileFault::Rows => about_file(8),
+            FileFault::Memory => about_file(9),
+        }
     }
 }

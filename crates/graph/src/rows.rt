@@ -1,23 +1,84 @@
 // Rule rows.
+ghost use Rattle.std.specs.Prelude.{◌≡◌};
+ghost use Rattle.std.specs.Result.{result_ok};
+ghost use Rattle.graph.specs.Rules.{mate_of, row_words, row_from};
 
-// A row: with its premises `from` and `mate` active, `to` is to be. With `cross` the conclusion is on the side
-// where the lane leads.
-#[derive(Clone, Copy)]
+use records::lanes::{LANES, Lane};
+
+// The most rule rows of a graph.
+pub const MAX_ROWS: u32 = 262_144;
+
+// The words before the rows, and the words of a row.
+pub const HEAD: usize = 4;
+
+pub const WIDTH: usize = 5;
+
+// The word that means none.
+const NONE: u32 = u32::MAX;
+
+// A row: with its premises `from` and `mate` active, `to` is to be. It is of a lane, or about no dependency. With
+// `cross` the conclusion is on the side where the lane leads.
+#[derive(Clone, Copy, PartialEq, Eq, Debug)]
 pub struct Row {
     pub from: u32,
     pub mate: Option<u32>,
     pub to: u32,
-    pub lane: u32,
+    pub lane: Option<Lane>,
     pub cross: bool,
 }
 
+// Words that are no row: the lane or cross is out of range.
+#[derive(Clone, Copy, PartialEq, Eq, Debug)]
+pub struct NoRow;
+
 // What an accepted opening answers: the bytes read, and how many packages, dependencies, features and rule rows
 // there are.
-#[derive(Clone, Copy)]
+#[derive(Clone, Copy, PartialEq, Eq, Debug)]
 pub struct Opened {
     pub read: usize,
     pub packages: u32,
     pub dependencies: u32,
     pub features: u32,
     pub rows: u32,
+}
+
+// The item that a word names, if any.
+pub fn mate_of(word: u32) -> Option<u32>
+    ensures { result ≡ mate_of word }
+{
+    (word != NONE).then_some(word)
+}
+
+impl From<Row> for [u32; WIDTH] {
+    ghost from_gives = { λ row words. words ≡ row_words row };
+
+    fn from(row: Row) -> [u32; WIDTH] {
+        [
+            row.from,
+            row.mate.unwrap_or(NONE),
+            row.to,
+            row.lane.map_or(LANES, u32::from),
+            u32::from(row.cross),
+        ]
+    }
+}
+
+impl TryFrom<[u32; WIDTH]> for Row {
+    type Error = NoRow;
+
+    ghost try_from_gives = { λ words r. result_ok r ≡ row_from words };
+
+    fn try_from(words: [u32; WIDTH]) -> Result<Row, NoRow> {
+        let [from, mate, to, lane, cross] = words;
+        if lane > LANES || cross > 1 {
+            return Err(NoRow);
+        }
+        Ok(Row {
+            from,
+            mate: mate_of(mate),
+            to,
+            lane: Lane::try_from(lane).ok(),
+            cross: cross == 1,
+        })
+    }
 }

@@ -1,147 +1,220 @@
 // The rows of dependencies and of feature values.
-ghost use Rattle.std.specs.Prelude.{◌≡◌, ◌+◌, ◌*◌, ◌<◌, ◌≤◌, length, None};
+ghost use Rattle.std.specs.Prelude.{◌≡◌};
 ghost use Rattle.std.specs.List.{flat_map};
-ghost use Rattle.records.specs.Encoding.{bit, edge_number};
-ghost use Rattle.records.specs.Bodies.{dependency_view, texts};
-ghost use Rattle.graph.specs.Law.{dependency_count};
-ghost use Rattle.graph.specs.Laying.{its, Told, ask_rows, dependency_rows};
-ghost use Rattle.graph.specs.Places.{feat, features_of, proc_of, number};
-ghost use Rattle.graph.specs.Rules.{lane_of, place_of, on_some};
-ghost use Rattle.graph.specs.Sheets.{sheet, lays};
+ghost use Rattle.std.specs.Str.{bytes_eq};
+ghost use Rattle.records.specs.Bodies.{dependency_view, texts, form_in, forms, bytes_in};
+ghost use Rattle.records.specs.Graphs.{Dependency as Depends, dependency};
+ghost use Rattle.graph.specs.Laying.{its, ReadsAs, row_to, row_found, ask_rows, dependency_rows, switch_rows, weak_rows, one_named, each_named, value_rows};
+ghost use Rattle.graph.specs.Places.{proc_of};
+ghost use Rattle.graph.specs.Sheets.{lays};
 
+use crate::contents::Owned;
+use crate::filled::Filled;
 use crate::rows::Row;
-use crate::sheets::lay;
-use crate::tables::Directory;
+use crate::sheets::Sheet;
 use records::bodies::{Dependency, Edge};
+use records::lanes::Lane;
 use records::strings::Strings;
+use text::parts::FeatureString;
+use text::strings::read_feature_string;
 
-fn edge_number(edge: Edge) -> u32
-    ensures value { result ≡ edge_number edge }
-    ensures small { result ≤ 2 }
-{
-    match edge {
-        Edge::Normal => 0,
-        Edge::Build => 1,
-        Edge::Dev => 2,
-    }
+// A row without its conclusion.
+#[derive(Clone, Copy)]
+pub(crate) struct Premises {
+    pub from: u32,
+    pub mate: Option<u32>,
+    pub lane: Option<Lane>,
+    pub cross: bool,
 }
 
-// A row with one premise.
-fn lone_row(from: u32, to: u32, lane: u32, cross: bool) -> Row
-    ensures { result ≡ record { from = from; mate = None; to = to; lane = lane; cross = cross } }
-{
-    Row {
-        from,
-        mate: None,
-        to,
-        lane,
-        cross,
-    }
-}
-
-impl<'a> Directory<'a> {
-    // The local number of the feature of a package and name.
-    pub(crate) fn feature_item(&self, owner: u32, name: &[u8]) -> Option<u32>
-        requires told { Told self.now }
-        ensures { result ≡ on_some (λ j. number (its self.now) (feat owner j)) (place_of (features_of (its self.now) owner) name.now) }
+impl Premises {
+    // The row to a conclusion.
+    fn row(self, to: u32) -> Row
+        ensures { result ≡ row_to self to }
     {
-        let base = self.counts.packages + self.counts.dependencies;
-        match self.index.find(owner, name) {
-            Some(k) => Some(base + k),
-            None => None,
+        Row {
+            from: self.from,
+            mate: self.mate,
+            to,
+            lane: self.lane,
+            cross: self.cross,
+        }
+    }
+}
+
+// A value that names dependencies: the number of its feature, the name, whether it switches an optional one on, and
+// the feature of their ends that it names, if any. The rows ask the last two apart, so an enum of the three forms would
+// be matched twice.
+#[derive(Clone, Copy)]
+pub(crate) struct Named<'b> {
+    pub from: u32,
+    pub name: &'b [u8],
+    pub switches: bool,
+    pub feature: Option<&'b [u8]>,
+}
+
+impl<'a> Filled<'a> {
+    // The lane of a dependency.
+    fn lane(&self, edge: Edge, end: u16) -> Lane
+        ensures { result ≡ record { edge = edge; procedural = proc_of (its self.now) end } }
+    {
+        Lane {
+            edge,
+            procedural: self.is_procedural(u32::from(end)),
         }
     }
 
-    // The lane of a dependency.
-    pub(crate) fn lane(&self, edge: Edge, end: u16) -> u32
-        requires told { Told self.now }
-        requires known { end < length (its self.now) }
-        ensures { result ≡ edge_number edge + 3 * bit (proc_of (its self.now) end) }
+    // The row to the feature of a name of a package, if there is one.
+    fn row_found(&self, sheet: &mut Sheet, premises: Premises, p: u32, name: &[u8])
+        ensures { sheet.new ≡ lays sheet.old (row_found (its self.now) premises p name.now) }
     {
-        let entry = self.packages[usize::from(end)];
-        let proc_mark = if entry.proc_mark { 3 } else { 0 };
-        edge_number(edge) + proc_mark
-    }
-
-    // From an item to the feature of a name of a package.
-    fn ask_rows(
-        &self,
-        words: &mut [u32],
-        count: u32,
-        from: u32,
-        lane: u32,
-        end: u32,
-        name: &[u8],
-    ) -> u32
-        requires told { Told self.now }
-        requires few { count ≤ 262145 }
-        ensures sheet { sheet words.new result ≡ lays (sheet words.old count) (ask_rows (its self.now) from lane end name.now) }
-        ensures few { result ≤ 262145 }
-    {
-        match self.feature_item(end, name) {
-            Some(to) => lay(
-                words,
-                count,
-                Row {
-                    from,
-                    mate: None,
-                    to,
-                    lane,
-                    cross: true,
-                },
-            ),
-            None => count,
+        if let Some(to) = self.feature_item(p, name) {
+            sheet.lay(premises.row(to));
         }
     }
 
     // From an item to each of some features of a package.
-    fn asks_rows(
-        &self,
-        words: &mut [u32],
-        count: u32,
-        from: u32,
-        lane: u32,
-        end: u32,
-        asks: Strings,
-    ) -> u32
-        requires told { Told self.now }
-        requires few { count ≤ 262145 }
-        ensures sheet { sheet words.new result ≡ lays (sheet words.old count) (flat_map (ask_rows (its self.now) from lane end) (texts asks.entry)) }
-        ensures few { result ≤ 262145 }
+    // One function for this loop and that of `values_rows` would take a closure longer than either.
+    fn asks_rows(&self, sheet: &mut Sheet, from: u32, lane: Lane, end: u32, asks: Strings)
+        ensures { sheet.new ≡ lays sheet.old (flat_map (ask_rows (its self.now) from lane end) (texts asks.entry)) }
     {
-        let mut asks = asks;
-        let mut laid = count;
-        while let Some(name) = asks.next() {
-            laid = self.ask_rows(words, laid, from, lane, end, name);
+        let premises = Premises {
+            from,
+            mate: None,
+            lane: Some(lane),
+            cross: true,
+        };
+        for name in asks {
+            self.row_found(sheet, premises, end, name);
         }
-        laid
     }
 
     // The rows of a dependency, whose number is `item`, of a package.
-    pub(crate) fn dependency_rows(
-        &self,
-        words: &mut [u32],
-        count: u32,
-        owner: u32,
-        item: u32,
-        d: Dependency,
-    ) -> u32
-        requires told { Told self.now }
-        requires few { count ≤ 262145 }
-        requires known { d.end < length (its self.now) }
-        ensures sheet { sheet words.new result ≡ lays (sheet words.old count) (dependency_rows (its self.now) owner item (dependency_view d.entry)) }
-        ensures few { result ≤ 262145 }
+    pub(crate) fn dependency_rows(&self, sheet: &mut Sheet, owner: u32, item: u32, d: Dependency)
+        ensures { sheet.new ≡ lays sheet.old (dependency_rows (its self.now) owner item (dependency_view d.entry)) }
     {
         let lane = self.lane(d.edge, d.end);
         let end = u32::from(d.end);
-        let mut laid = count;
+        let premises = Premises {
+            from: item,
+            mate: None,
+            lane: Some(lane),
+            cross: true,
+        };
         if !d.optional {
-            laid = lay(words, laid, lone_row(owner, item, lane, false));
+            let own = Premises {
+                from: owner,
+                mate: None,
+                lane: Some(lane),
+                cross: false,
+            };
+            sheet.lay(own.row(item));
         }
-        laid = lay(words, laid, lone_row(item, end, lane, true));
+        sheet.lay(premises.row(end));
         if d.defaults {
-            laid = self.ask_rows(words, laid, item, lane, end, b"default");
+            self.row_found(sheet, premises, end, b"default");
         }
-        self.asks_rows(words, laid, item, lane, end, d.asks)
+        self.asks_rows(sheet, item, lane, end, d.asks);
+    }
+
+    // From a feature to an optional dependency, where a value may switch it on.
+    fn switch_row(&self, sheet: &mut Sheet, value: Named, item: u32, d: Dependency)
+        ensures { sheet.new ≡ lays sheet.old (switch_rows (its self.now) value.entry.from value.entry.switches item (dependency_view d.entry)) }
+    {
+        if value.switches && d.optional {
+            let premises = Premises {
+                from: value.from,
+                mate: None,
+                lane: Some(self.lane(d.edge, d.end)),
+                cross: false,
+            };
+            sheet.lay(premises.row(item));
+        }
+    }
+
+    // From a feature and a dependency to the feature of a name of its end, where a value names one.
+    fn weak_row(&self, sheet: &mut Sheet, value: Named, item: u32, d: Dependency)
+        ensures { sheet.new ≡ lays sheet.old (weak_rows (its self.now) value.entry.from (bytes_in value.entry.feature) item (dependency_view d.entry)) }
+    {
+        if let Some(name) = value.feature {
+            let premises = Premises {
+                from: value.from,
+                mate: Some(item),
+                lane: Some(self.lane(d.edge, d.end)),
+                cross: true,
+            };
+            self.row_found(sheet, premises, u32::from(d.end), name);
+        }
+    }
+
+    // The rows of a value for the dependency at a place, whose number is `item`, if it has the value's name.
+    fn named_row(&self, sheet: &mut Sheet, value: Named, item: u32, start: u32)
+        ensures { (d : Depends) → ReadsAs self.now start (dependency d) → sheet.new ≡ lays sheet.old (one_named (its self.now) value.entry.from value.entry.name.now value.entry.switches (bytes_in value.entry.feature) item d) }
+    {
+        match self.part_at(start) {
+            Some(Owned::Dependency(d)) if d.name.bytes == value.name => {
+                self.switch_row(sheet, value, item, d);
+                self.weak_row(sheet, value, item, d);
+            }
+            _ => {}
+        }
+    }
+
+    // The rows of a value for each dependency of a package that has the value's name. Only the call differs from that of
+    // `rows_of_parts`, so a closure for it would be longer. A cast of `k` is right, as there are at most 36,864 items.
+    fn named_rows(&self, sheet: &mut Sheet, p: u32, value: Named)
+        ensures { sheet.new ≡ lays sheet.old (each_named (its self.now) p value.entry.from value.entry.name.now value.entry.switches (bytes_in value.entry.feature)) }
+    {
+        let table = self.dependencies(p);
+        for (k, start) in table.starts.iter().enumerate() {
+            self.named_row(sheet, value, table.first + k as u32, *start);
+        }
+    }
+
+    // The rows of a value of a feature.
+    fn value_rows(&self, sheet: &mut Sheet, p: u32, from: u32, text: &[u8])
+        ensures { sheet.new ≡ lays sheet.old (value_rows (its self.now) p from (form_in text.now)) }
+    {
+        let plain = Premises {
+            from,
+            mate: None,
+            lane: None,
+            cross: false,
+        };
+        let (dependency, switches, feature) = match read_feature_string(text) {
+            Ok(FeatureString::Plain { feature }) => {
+                return self.row_found(sheet, plain, p, feature.bytes);
+            }
+            Ok(FeatureString::Switch { dependency }) => (dependency, true, None),
+            Ok(
+                FeatureString::Strong {
+                    dependency,
+                    feature,
+                },
+            ) => (dependency, true, Some(feature.bytes)),
+            Ok(
+                FeatureString::Weak {
+                    dependency,
+                    feature,
+                },
+            ) => (dependency, false, Some(feature.bytes)),
+            Err(_) => return self.row_found(sheet, plain, p, text),
+        };
+        let value = Named {
+            from,
+            name: dependency.bytes,
+            switches,
+            feature,
+        };
+        self.named_rows(sheet, p, value);
+    }
+
+    // The rows of the values of a feature.
+    pub(crate) fn values_rows(&self, sheet: &mut Sheet, p: u32, from: u32, values: Strings)
+        ensures { sheet.new ≡ lays sheet.old (flat_map (value_rows (its self.now) p from) (forms values.entry)) }
+    {
+        for text in values {
+            self.value_rows(sheet, p, from, text);
+        }
     }
 }

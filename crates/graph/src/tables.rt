@@ -1,15 +1,18 @@
 // The tables of a directory.
+ghost use Rattle.std.specs.Prelude.{◌+◌, ◌≤◌, length};
+
 use crate::contents::Counts;
 use crate::index::{Index, MAX_FEATURES};
 
 // The most packages and dependencies of a graph, and the most of dependencies and features together.
-pub(crate) const MAX_PACKAGES: usize = 4_096;
+pub const MAX_PACKAGES: usize = 4_096;
 
-pub(crate) const MAX_DEPENDENCIES: usize = 16_384;
+pub const MAX_DEPENDENCIES: usize = 16_384;
 
 pub(crate) const MAX_PARTS: usize = 32_768;
 
-// A package: its proc mark, and the numbers of its first dependency and of its first feature.
+// A package: its proc mark, and the numbers of its first dependency and of its first feature. Where they end, the next
+// package's begin: an end in here would be the same number once more.
 #[derive(Clone, Copy)]
 pub(crate) struct PackageEntry {
     pub proc_mark: bool,
@@ -24,19 +27,18 @@ pub(crate) struct PartEntry {
     pub owner: u32,
 }
 
-// Where the filling of a directory stands: the start of the next record, and how many packages, dependencies and
-// features are before it.
+// Some records in file order: the local number of the first, and where each starts in the file.
 #[derive(Clone, Copy)]
-pub(crate) struct Seat {
-    pub start: usize,
-    pub packages: u32,
-    pub dependencies: u32,
-    pub features: u32,
+pub(crate) struct Starts<'a> {
+    pub first: u32,
+    pub starts: &'a [u32],
+    ghost few: { first + length starts.now ≤ 36864 },
 }
 
 // Where everything stands in a graph file that the first reading has accepted: the packages, the starts of the
 // dependency records, those of the feature records, both in file order with their owners, and the features by
-// package and name.
+// package and name. The memory is fixed, since the library allocates nothing; how far each table is filled, `counts`
+// says. The starts are there twice, since one look asks by package and the other goes in file order.
 #[derive(Drop)]
 pub(crate) struct Directory<'a> {
     pub index: Index<'a>,

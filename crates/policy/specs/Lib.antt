@@ -1,3 +1,2 @@
 pub mod Sides
-pub mod Lanes
 pub mod Answers

@@ -2,8 +2,7 @@
 use Rattle.std.specs.Prelude.{ℕ, cond, Some, None, Option, ◌==◌}
 use Rattle.policy.specs.declared.sides.Side.{Side}
 use Rattle.policy.specs.declared.sides.Side.TheVariants as side
-use Rattle.policy.specs.declared.sides.Lead.{Lead}
-use Rattle.policy.specs.declared.sides.Lead.TheVariants as lead
+use Rattle.policy.specs.declared.sides.UnknownSide.{UnknownSide}
 
 -- how many sides there are
 abbrev pub sides : ℕ
@@ -16,7 +15,6 @@ side_number side.Host = 1
 abbrev pub side_at : ℕ → Option Side
 side_at n = cond (n == 0) (Some side.Target) (cond (n == 1) (Some side.Host) None)
 
--- the lead to a side itself
-abbrev pub own_side : Side → Lead
-own_side side.Target = lead.Target
-own_side side.Host = lead.Host
+-- the number is no side's
+abbrev pub unknown : ℕ → UnknownSide
+unknown n = record { 0 = n }

@@ -3,12 +3,12 @@ ghost use Rattle.policy.specs.Answers.{dev_cut};
 ghost use Rattle.std.proofs.Common.{rules};
 
 use crate::answers::Policy;
-use crate::lanes::Lane;
-use crate::sides::{Lead, Side};
+use crate::sides::Side;
 use records::bodies::Edge;
+use records::lanes::Lane;
 
 // Dev dependencies are cut; all else is as the policy below answers.
-#[derive(Clone, Copy)]
+#[derive(Clone, Copy, PartialEq, Eq, Debug)]
 pub struct DevCut<P> {
     pub below: P,
 }
@@ -18,9 +18,9 @@ impl<P: Policy> Policy for DevCut<P> {
 
     ghost lawful = { Prim.search rules };
 
-    fn leads(&self, lane: Lane, side: Side) -> Lead {
+    fn leads(&self, lane: Lane, side: Side) -> Option<Side> {
         match lane.edge {
-            Edge::Dev => Lead::Cut,
+            Edge::Dev => None,
             Edge::Normal | Edge::Build => self.below.leads(lane, side),
         }
     }

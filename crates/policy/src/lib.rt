@@ -5,7 +5,6 @@
 pub mod answers;
 pub mod dev_cut;
 pub mod host_split;
-pub mod lanes;
 pub mod sides;
 pub mod told;
 pub mod unified;

@@ -1,6 +1,9 @@
-// Sides, and where a lane leads.
-ghost use Rattle.std.specs.Prelude.{◌≡◌};
-ghost use Rattle.policy.specs.Sides.{side_at, side_number, own_side};
+// Sides, and their numbers.
+ghost use Rattle.std.specs.Prelude.{◌≡◌, ok_or};
+ghost use Rattle.policy.specs.Sides.{side_at, side_number, unknown};
+
+// How many sides there are.
+pub const SIDES: u32 = 2;
 
 // The side for which something is built: what is delivered runs on the target, the build itself on the host.
 #[derive(Clone, Copy, PartialEq, Eq, Debug)]
@@ -9,42 +12,31 @@ pub enum Side {
     Host,
 }
 
-// Where a lane leads from a side; a cut lane leads nowhere.
+// A number that no side has.
 #[derive(Clone, Copy, PartialEq, Eq, Debug)]
-pub enum Lead {
-    Target,
-    Host,
-    Cut,
-}
+pub struct UnknownSide(pub u32);
 
-impl Side {
-    // The side of a number, if there is one.
-    pub fn of_number(number: u32) -> Option<Side>
-        ensures { result ≡ side_at number }
-    {
-        match number {
-            0 => Some(Side::Target),
-            1 => Some(Side::Host),
-            _ => None,
-        }
-    }
+impl From<Side> for u32 {
+    ghost from_gives = { λ side n. n ≡ side_number side };
 
-    pub fn number(self) -> u32
-        ensures { result ≡ side_number self }
-    {
-        match self {
+    fn from(side: Side) -> u32 {
+        match side {
             Side::Target => 0,
             Side::Host => 1,
         }
     }
+}
 
-    // The lead to this side itself.
-    pub fn itself(self) -> Lead
-        ensures { result ≡ own_side self }
-    {
-        match self {
-            Side::Target => Lead::Target,
-            Side::Host => Lead::Host,
+impl TryFrom<u32> for Side {
+    type Error = UnknownSide;
+
+    ghost try_from_gives = { λ n r. r ≡ ok_or (side_at n) (unknown n) };
+
+    fn try_from(number: u32) -> Result<Side, UnknownSide> {
+        match number {
+            0 => Ok(Side::Target),
+            1 => Ok(Side::Host),
+            _ => Err(UnknownSide(number)),
         }
     }
 }

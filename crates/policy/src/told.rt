@@ -1,20 +1,27 @@
 // The answers of a policy, asked once.
-ghost use Rattle.std.specs.Prelude.{◌≡◌};
-ghost use Rattle.policy.specs.declared.lanes.Lane.{Lane};
+ghost use Rattle.std.specs.Prelude.{◌≡◌, None, slice_index_or};
+ghost use Rattle.records.specs.declared.lanes.Lane.{Lane};
+ghost use Rattle.records.specs.Lanes.{lane_number};
 ghost use Rattle.policy.specs.declared.sides.Side.{Side};
 ghost use Rattle.policy.specs.Answers.{told_by};
 
 use crate::answers::{Policy, answer};
-use crate::lanes::{LANES, Lane};
-use crate::sides::{Lead, Side};
+use crate::sides::{SIDES, Side};
+use records::lanes::{LANES, Lane};
+use std::array;
 
-// How many answers a policy has: one for each lane from each side.
-const ANSWERS: usize = 12;
-
-// The answers of a policy, those from the target first.
-#[derive(Clone, Copy)]
+// The answers of a policy: for each side, where each lane leads from it.
+#[derive(Clone, Copy, PartialEq, Eq, Debug)]
 pub struct Told {
-    pub leads: [Lead; ANSWERS],
+    pub leads: [[Option<Side>; LANES as usize]; SIDES as usize],
+}
+
+// Where each lane leads from a side.
+fn leads_from<P: Policy>(policy: &P, side: Side) -> [Option<Side>; LANES as usize]
+    ensures { (lane : Lane) → slice_index_or result (lane_number lane) None ≡ P.Policy.answers policy.now lane side }
+{
+    // each place is below 6, so `try_from` would only add an error that never comes
+    array::from_fn(|lane| answer(policy, lane as u32, side.into()))
 }
 
 impl Told {
@@ -22,19 +29,18 @@ impl Told {
     pub fn by<P: Policy>(policy: &P) -> Told
         ensures { (lane : Lane) (side : Side) → told_by result.leads lane side ≡ P.Policy.answers policy.now lane side }
     {
-        let mut leads = [Lead::Cut; ANSWERS];
-        for k in 0..ANSWERS {
-            let number = k as u32;
-            leads[k] = answer(policy, number % LANES, number / LANES);
+        Told {
+            leads: [
+                leads_from(policy, Side::Target),
+                leads_from(policy, Side::Host),
+            ],
         }
-        Told { leads }
     }
 
     // Where a lane leads from a side.
-    pub fn lead(&self, lane: Lane, side: Side) -> Lead
+    pub fn lead(&self, lane: Lane, side: Side) -> Option<Side>
         ensures { result ≡ told_by self.now.leads lane side }
     {
-        let k = side.number() * LANES + lane.number();
-        self.leads[k as usize]
+        self.leads[u32::from(side) as usize][u32::from(lane) as usize]
     }
 }

@@ -3,19 +3,19 @@ ghost use Rattle.policy.specs.Answers.{unified};
 ghost use Rattle.std.proofs.Common.{rules};
 
 use crate::answers::Policy;
-use crate::lanes::Lane;
-use crate::sides::{Lead, Side};
+use crate::sides::Side;
+use records::lanes::Lane;
 
 // Each side leads to itself.
-#[derive(Clone, Copy)]
-pub struct Unified {}
+#[derive(Clone, Copy, PartialEq, Eq, Debug)]
+pub struct Unified;
 
 impl Policy for Unified {
     ghost answers = { λ _. unified };
 
     ghost lawful = { Prim.search rules };
 
-    fn leads(&self, _lane: Lane, side: Side) -> Lead {
-        side.itself()
+    fn leads(&self, _lane: Lane, side: Side) -> Option<Side> {
+        Some(side)
     }
 }

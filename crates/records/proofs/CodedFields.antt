@@ -1,7 +1,8 @@
 -- Each field reads just what its encoding writes.
 use Rattle.std.proofs.Common.{◌≡◌, ℕ, ◌+◌, ◌*◌, ◌<◌, ◌≤◌, Bool, true, false, cond, eqb, ltb, List, [], ◌∷◌, ◌++◌, length, take, drop, Ok, Err, Result, sym, refl, ap, ◌∙◌, subst, arith}
 use Rattle.std.proofs.lemmas.List.{length-append, take-append-drop, length-take-le, take_at, drop_at}
-use Rattle.std.proofs.lemmas.Bool.{cond-false, le-ltb, ltb-false, eqb-true, ne_eqb}
+use Rattle.std.proofs.lemmas.Bool.{cond-false, le-ltb, ltb-false, ne_eqb}
+use Rattle.std.proofs.lemmas.Grind.{common_steps}
 use Rattle.std.specs.List.{flat_map, AllByRecursion}
 use Rattle.text.specs.declared.faults.StringFault.{StringFault}
 use Rattle.text.specs.declared.faults.StringFault.TheVariants.{NoForm}
@@ -10,8 +11,7 @@ use Rattle.text.specs.Forms.{Form, Piece, spell, Lawful, placed, unplaced}
 use Rattle.text.specs.Readers.{read_name, read_form}
 use Rattle.text.proofs.NameRuns.{name-law}
 use Rattle.text.proofs.FormLaws.{form-law, unplaced-placed}
-use Rattle.records.specs.declared.faults.RecordFault.{RecordFault}
-use Rattle.records.specs.declared.faults.RecordFault.TheVariants.{Ragged, Mark}
+use Rattle.records.specs.declared.faults.RecordFault.TheVariants.{Ragged}
 use Rattle.records.specs.declared.faults.InField.{InField}
 use Rattle.records.specs.declared.bodies.Edge.{Edge}
 use Rattle.records.specs.declared.bodies.Edge.TheVariants.{Normal, Build, Dev}
@@ -60,12 +60,7 @@ module _ {A : Type 0} (choose : ℕ → ℕ → Field A) (number : A → ℕ)
   }
 
 by-switch : (k b : ℕ) (v : View) (a : Bool) (w : View) → switch_at k b v ≡ Ok (a, w) → (b ≡ bit a) × (w ≡ v)
-by-switch k b v a w e = go (eqb b 0) refl (eqb b 1) refl e
-  where
-    go : (x : Bool) → eqb b 0 ≡ x → (y : Bool) → eqb b 1 ≡ y → ◌≡◌ {A = Result (Bool × View) RecordFault} (cond x (Ok (false, v)) (cond y (Ok (true, v)) (Err (Mark k)))) (Ok (a, w)) → (b ≡ bit a) × (w ≡ v)
-    go true p y q h = let r = in-ok (false, v) (a, w) h in (eqb-true b 0 p ∙ ap (λ z. bit z.0) r, sym (ap (λ z. z.1) r))
-    go false p true q h = let r = in-ok (true, v) (a, w) h in (eqb-true b 1 q ∙ ap (λ z. bit z.0) r, sym (ap (λ z. z.1) r))
-    go false p false q h = absurd (not-both h)
+by-switch k b v a w e = grind (arith, common_steps)
 
 pub switch-coded : Coded switch_field (λ _. Unit {0}) (λ a. bit a ∷ [])
 switch-coded = chosen-coded switch_at bit by-switch chooses
@@ -75,13 +70,7 @@ switch-coded = chosen-coded switch_at bit by-switch chooses
     chooses k v true = refl
 
 by-edge : (k b : ℕ) (v : View) (a : Edge) (w : View) → edge_at k b v ≡ Ok (a, w) → (b ≡ edge_number a) × (w ≡ v)
-by-edge k b v a w e = go (eqb b 0) refl (eqb b 1) refl (eqb b 2) refl e
-  where
-    go : (x : Bool) → eqb b 0 ≡ x → (y : Bool) → eqb b 1 ≡ y → (z : Bool) → eqb b 2 ≡ z → ◌≡◌ {A = Result (Edge × View) RecordFault} (cond x (Ok (Normal, v)) (cond y (Ok (Build, v)) (cond z (Ok (Dev, v)) (Err (Mark k))))) (Ok (a, w)) → (b ≡ edge_number a) × (w ≡ v)
-    go true p y q z o h = let r = in-ok (Normal, v) (a, w) h in (eqb-true b 0 p ∙ ap (λ c. edge_number c.0) r, sym (ap (λ c. c.1) r))
-    go false p true q z o h = let r = in-ok (Build, v) (a, w) h in (eqb-true b 1 q ∙ ap (λ c. edge_number c.0) r, sym (ap (λ c. c.1) r))
-    go false p false q true o h = let r = in-ok (Dev, v) (a, w) h in (eqb-true b 2 o ∙ ap (λ c. edge_number c.0) r, sym (ap (λ c. c.1) r))
-    go false p false q false o h = absurd (not-both h)
+by-edge k b v a w e = grind (arith, common_steps)
 
 pub edge-coded : Coded edge_field (λ _. Unit {0}) (λ a. edge_number a ∷ [])
 edge-coded = chosen-coded edge_at edge_number by-edge chooses

@@ -1,9 +1,10 @@
 pub mod Cuts
-pub mod Takes
 pub mod Manys
 pub mod Lists
 pub mod Numbers
 pub mod Framing
+pub mod KindNumbers
 pub mod Codes
 pub mod CodedFields
 pub mod Listings
+pub mod LaneNumbers

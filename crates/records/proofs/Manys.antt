@@ -16,20 +16,15 @@ void-more {A} m n v = go (m v)
     go (Ok p) = rest p.0 (many m n p.1)
     go (Err e) = refl
 
--- the fields are those of k, of each of which f is kept
-module _ {A B : Type 0} (k : Field B) (f : B → A) (count i : ℕ) (v o : View) (l : i < count)
-    (h : void (many (and_then k (λ b. give (f b))) (count - i)) v ≡ void (many (and_then k (λ b. give (f b))) count) o) where
-  opened : on_ok (k v) (λ _. void (many (and_then k (λ b. give (f b))) (count - (i + 1)))) ≡ void (many (and_then k (λ b. give (f b))) count) o
+module _ {A : Type 0} (m : Field A) (count i : ℕ) (v o : View) (l : i < count)
+    (h : void (many m (count - i)) v ≡ void (many m count) o) where
+  opened : on_ok (m v) (λ _. void (many m (count - (i + 1)))) ≡ void (many m count) o
   opened =
       let e : count - i ≡ suc (count - (i + 1)) = omega arith in
-      go (k v) ∙ sym (void-more (and_then k (λ b. give (f b))) (count - (i + 1)) v) ∙ ap (λ n. void (many (and_then k (λ b. give (f b))) n) v) (sym e) ∙ h
-    where
-      go : (r : Result (B × View) RecordFault) → on_ok r (λ _. void (many (and_then k (λ b. give (f b))) (count - (i + 1)))) ≡ on_ok (on_ok r (λ b. give (f b))) (λ _. void (many (and_then k (λ b. give (f b))) (count - (i + 1))))
-      go (Ok p) = refl
-      go (Err e) = refl
+      sym (void-more m (count - (i + 1)) v) ∙ ap (λ n. void (many m n) v) (sym e) ∙ h
 
-  pub many-goes : (b : B) (w : View) → Ok (b, w) ≡ k v → void (many (and_then k (λ b. give (f b))) (count - (i + 1))) w ≡ void (many (and_then k (λ b. give (f b))) count) o
-  many-goes b w e = ap (λ r. on_ok r (λ _. void (many (and_then k (λ b. give (f b))) (count - (i + 1))))) e ∙ opened
+  pub many-goes : (a : A) (w : View) → Ok (a, w) ≡ m v → void (many m (count - (i + 1))) w ≡ void (many m count) o
+  many-goes a w e = ap (λ r. on_ok r (λ _. void (many m (count - (i + 1))))) e ∙ opened
 
-  pub many-stops : (e : RecordFault) → Err e ≡ k v → Err e ≡ void (many (and_then k (λ b. give (f b))) count) o
-  many-stops x e = ap (λ r. on_ok r (λ _. void (many (and_then k (λ b. give (f b))) (count - (i + 1))))) e ∙ opened
+  pub many-stops : (e : RecordFault) → Err e ≡ m v → Err e ≡ void (many m count) o
+  many-stops x e = ap (λ r. on_ok r (λ _. void (many m (count - (i + 1))))) e ∙ opened

@@ -2,12 +2,14 @@
 use Rattle.std.proofs.Common.{◌≡◌, ℕ, ◌+◌, ◌*◌, ◌/◌, ◌%◌, ◌<◌, List, [], ◌∷◌, ◌++◌, Ok, Err, Result, ap, ◌∙◌, arith}
 use Rattle.records.specs.Encoding.{two, four, Bytes}
 
+-- of `Ok` and `Err`, of which the library has none; of options it has `none-some` and `same_Some`
 pub not-both : {X Y : Type 0} {x : X} {y : Y} → ◌≡◌ {A = Result X Y} (Err y) (Ok x) → ⊥
 not-both e = let z : ◌≡◌ {A = ℕ} 0 1 = cc in omega arith
 
 pub in-ok : {X Y : Type 0} (x y : X) → ◌≡◌ {A = Result X Y} (Ok x) (Ok y) → x ≡ y
 in-ok x y e = cc
 
+-- numbers put together again, which other files go on from
 pub two-value : (x : ℕ) → x % 256 + x / 256 * 256 ≡ x
 two-value x = omega arith
 

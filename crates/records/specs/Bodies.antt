@@ -8,7 +8,7 @@ use Rattle.records.specs.declared.strings.Strings.{Strings}
 use Rattle.records.specs.declared.bodies.Package.{Package as PackageBody}
 use Rattle.records.specs.declared.bodies.Dependency.{Dependency as DependencyBody}
 use Rattle.records.specs.declared.bodies.Feature.{Feature as FeatureBody}
-use Rattle.records.specs.Fields.{Field, and_then, give, byte_field, word_field, name_field, form_field, switch_field, edge_field, closed_field}
+use Rattle.records.specs.Fields.{Field, and_then, give, byte_field, word_field, name_field, form_field, switch_field, edge_field, closed_field, labelled, void}
 use Rattle.records.specs.Graphs.{Dependency, Feature}
 
 -- so many of one field
@@ -48,9 +48,13 @@ said t (Err e) = plain t
 abbrev pub form_in : List ℕ → Form (List ℕ)
 form_in t = said t (read_form t)
 
+-- a count byte and that many strings, each of which m reads; they stay strings
+abbrev pub list_field : {A : Type 0} → Field A → Field (List (List ℕ))
+list_field m = and_then byte_field (λ n v. labelled (listed n v.left) (void (many m n) v))
+
 -- a list of strings in a record, as what they are
 abbrev pub texts : Strings → List (List ℕ)
-texts s = listed s.count s.part.bytes.now
+texts s = listed s.count s.bytes.now
 
 abbrev pub forms : Strings → List (Form (List ℕ))
 forms s = map form_in (texts s)

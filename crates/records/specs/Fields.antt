@@ -1,5 +1,5 @@
 -- Reading fields, as functions of what is left of a record.
-use Rattle.std.specs.Prelude.{ℕ, ◌+◌, ◌*◌, Bool, true, false, cond, List, [], ◌∷◌, length, take, drop, Ok, Err, Result, ◌==◌, nat_lt}
+use Rattle.std.specs.Prelude.{ℕ, ◌+◌, ◌*◌, Bool, true, false, cond, List, [], ◌∷◌, length, take, drop, Some, None, Ok, Err, Option, Result, ◌==◌, nat_lt}
 use Rattle.text.specs.declared.faults.StringFault.{StringFault}
 use Rattle.text.specs.declared.faults.StringFault.TheVariants.{NoForm}
 use Rattle.text.specs.Forms.{Form, Piece}
@@ -43,6 +43,13 @@ and_then m f v = on_ok (m v) f
 abbrev pub give : {A : Type 0} → A → Field A
 give a v = Ok (a, v)
 
+-- so many bytes
+abbrev pub bytes_of : ℕ → List ℕ → ℕ → Result (List ℕ × View) RecordFault
+bytes_of n bs at = cond (nat_lt (length bs) n) (Err (Ragged at)) (Ok (take n bs, record { left = drop n bs; place = at + n }))
+
+abbrev pub bytes_field : ℕ → Field (List ℕ)
+bytes_field n v = bytes_of n v.left v.place
+
 -- one byte
 abbrev pub byte_of : List ℕ → ℕ → Result (ℕ × View) RecordFault
 byte_of [] at = Err (Ragged at)
@@ -79,6 +86,10 @@ abbrev pub in_record : {A : Type 0} → Result A InField → Field A
 in_record (Ok a) v = Ok (a, v)
 in_record (Err e) v = Err (Text e)
 
+-- a string of which a reading says what it is
+abbrev pub text_field : {A : Type 0} → (Piece → Result A InField) → Field A
+text_field read = and_then string_field (λ p. in_record (read p))
+
 abbrev pub name_of : Piece → Result Piece InField
 name_of p = in_field p.place (λ _. p) (read_name p.text)
 
@@ -102,6 +113,9 @@ abbrev pub switch_field : Field Bool
 switch_field v = and_then byte_field (switch_at v.place) v
 
 -- 0 normal, 1 build, 2 dev
+abbrev pub edge_of : ℕ → Option Edge
+edge_of b = cond (b == 0) (Some Normal) (cond (b == 1) (Some Build) (cond (b == 2) (Some Dev) None))
+
 abbrev pub edge_at : ℕ → ℕ → Field Edge
 edge_at at b v = cond (b == 0) (Ok (Normal, v)) (cond (b == 1) (Ok (Build, v)) (cond (b == 2) (Ok (Dev, v)) (Err (Mark at))))
 

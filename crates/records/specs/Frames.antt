@@ -1,8 +1,19 @@
 -- Bytes cut into records: length (4 bytes), kind (2 bytes), body; the length counts kind and body.
-use Rattle.std.specs.Prelude.{ℕ, ◌+◌, ◌*◌, cond, List, [], ◌∷◌, length, take, drop, Ok, Err, Result, nat_lt}
+use Rattle.std.specs.Prelude.{ℕ, ◌+◌, ◌*◌, cond, List, [], ◌∷◌, length, take, drop, Some, None, Ok, Err, Option, Result, ◌==◌, nat_lt}
 use Rattle.records.specs.declared.faults.RecordFault.{RecordFault}
 use Rattle.records.specs.declared.faults.RecordFault.TheVariants.{Cut, Ragged}
 use Rattle.records.specs.declared.frames.Frame as code
+use Rattle.records.specs.declared.frames.Kind.{Kind}
+use Rattle.records.specs.declared.frames.Kind.TheVariants.{Header, Package, Dependency, Feature, End}
+
+-- the kind of a number, where it has one
+abbrev pub kind_at : ℕ → Option Kind
+kind_at n =
+    cond (n == 1) (Some Header)
+    (cond (n == 2) (Some Package)
+    (cond (n == 3) (Some Dependency)
+    (cond (n == 4) (Some Feature)
+    (cond (n == 5) (Some End) None))))
 
 -- a record's kind, its body, and the bytes after it
 pub record Frame : Type 0 where

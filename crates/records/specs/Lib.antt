@@ -3,3 +3,4 @@ pub mod Encoding
 pub mod Frames
 pub mod Fields
 pub mod Bodies
+pub mod Lanes

@@ -5,14 +5,14 @@ ghost use Rattle.records.specs.declared.faults.RecordFault.TheVariants.{Text};
 use text::faults::StringFault;
 
 // The fault of a string, and the place of its first byte in the record.
-#[derive(Clone, Copy)]
+#[derive(Clone, Copy, PartialEq, Eq, Debug)]
 pub struct InField {
     pub field: usize,
     pub fault: StringFault,
 }
 
 // The fault of a record. `field` is a place in the record, counted from its start.
-#[derive(Clone, Copy)]
+#[derive(Clone, Copy, PartialEq, Eq, Debug)]
 pub enum RecordFault {
     // the bytes end before the record does
     Cut,

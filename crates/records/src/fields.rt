@@ -1,8 +1,10 @@
 // The fields of a record, in the order in which they are read.
-ghost use Rattle.std.specs.Prelude.{◌≡◌};
+ghost use Rattle.std.specs.Prelude.{◌≡◌, Result};
+ghost use Rattle.text.specs.Forms.{Form, Piece};
 ghost use Rattle.text.specs.Views.{mapped, piece, form};
-ghost use Rattle.records.specs.Fields.{view, outcome, outcome_by, byte_field, word_field, string_field, name_of, name_field, form_of, form_field, switch_field, edge_field, closed_field, void, header_field};
-ghost use Rattle.records.specs.Bodies.{texts, forms, name_text, form_text, many, names_field, forms_field, values_field, package_view, package_field, dependency_view, dependency_field};
+ghost use Rattle.records.specs.declared.faults.InField.{InField};
+ghost use Rattle.records.specs.Fields.{view, outcome, outcome_by, bytes_field, byte_field, word_field, string_field, text_field, name_of, name_field, form_of, switch_field, edge_field, closed_field, void, header_field};
+ghost use Rattle.records.specs.Bodies.{texts, forms, many, list_field, names_field, forms_field, values_field, package_view, package_field, dependency_view, dependency_field};
 
 use crate::bodies::{Dependency, Edge, Package};
 use crate::faults::{InField, RecordFault};
@@ -13,101 +15,116 @@ use text::names::read_name;
 use text::parts::{FeatureString, Part};
 use text::strings::read_feature_string;
 
-// A part of a record, if it is a name.
-fn name_of<'a>(text: Part<'a>) -> Result<Part<'a>, InField>
-    ensures { mapped piece result ≡ name_of (piece text.entry) }
-{
-    let field = text.at;
-    match read_name(text.bytes) {
-        Ok(_) => Ok(text),
-        Err(fault) => Err(InField { field, fault }),
+// What a string of a record is read as.
+trait Text<'a>: Copy {
+    // a reading, with the bytes in the place of what refers to them
+    ghost Seen: { Type 0 };
+
+    ghost seen: { Self → Seen };
+
+    ghost reading: { Piece → Result Seen InField };
+
+    // A part of a record, if it is such a string.
+    fn read(text: Part<'a>) -> Result<Self, InField>
+        ensures { mapped seen result ≡ reading (piece text.entry) };
+}
+
+// A name.
+impl<'a> Text<'a> for Part<'a> {
+    ghost Seen = { Piece };
+
+    ghost seen = { piece };
+
+    ghost reading = { name_of };
+
+    fn read(text: Part<'a>) -> Result<Part<'a>, InField> {
+        let field = text.at;
+        read_name(text.bytes).map_err(|fault| InField { field, fault })?;
+        Ok(text)
     }
 }
 
-// A part of a record, if it is a feature string.
-fn form_of<'a>(text: Part<'a>) -> Result<FeatureString<'a>, InField>
-    ensures { mapped form result ≡ form_of (piece text.entry) }
-{
-    let field = text.at;
-    if text.bytes.is_empty() {
-        let fault = StringFault::NoForm { prefix: 0 };
-        return Err(InField { field, fault });
-    }
-    match read_feature_string(text.bytes) {
-        Ok(form) => Ok(form),
-        Err(fault) => Err(InField { field, fault }),
+// A feature string.
+impl<'a> Text<'a> for FeatureString<'a> {
+    ghost Seen = { Form Piece };
+
+    ghost seen = { form };
+
+    ghost reading = { form_of };
+
+    fn read(text: Part<'a>) -> Result<FeatureString<'a>, InField> {
+        let field = text.at;
+        if text.bytes.is_empty() {
+            let fault = StringFault::NoForm { prefix: 0 };
+            return Err(InField { field, fault });
+        }
+        read_feature_string(text.bytes).map_err(|fault| InField { field, fault })
     }
 }
 
 impl<'a> Reader<'a> {
+    // The next so many bytes.
+    fn array<const N: usize>(&mut self) -> Result<[u8; N], RecordFault>
+        ensures { outcome result (view self.new) ≡ bytes_field N (view self.old) }
+    {
+        let field = self.at;
+        let (bytes, rest) = self
+            .rest
+            .split_first_chunk::<N>()
+            .ok_or(RecordFault::Ragged { field })?;
+        *self = Reader {
+            rest,
+            at: field + N,
+        };
+        Ok(*bytes)
+    }
+
     // The next byte.
     fn byte(&mut self) -> Result<u8, RecordFault>
         ensures { outcome result (view self.new) ≡ byte_field (view self.old) }
     {
-        match self.rest {
-            [b, rest @ ..] => {
-                let b = *b;
-                let at = self.at + 1;
-                *self = Reader { rest, at };
-                Ok(b)
-            }
-            [] => Err(RecordFault::Ragged { field: self.at }),
-        }
+        let [b] = self.array::<1>()?;
+        Ok(b)
     }
 
     // The next two bytes, as a number.
     fn word(&mut self) -> Result<u16, RecordFault>
         ensures { outcome result (view self.new) ≡ word_field (view self.old) }
     {
-        match self.rest {
-            [a, b, rest @ ..] => {
-                let value = u16::from_le_bytes([*a, *b]);
-                let at = self.at + 2;
-                *self = Reader { rest, at };
-                Ok(value)
-            }
-            _ => Err(RecordFault::Ragged { field: self.at }),
-        }
+        Ok(u16::from_le_bytes(self.array()?))
     }
 
     // A string: one length byte, and that many bytes.
     fn string(&mut self) -> Result<Part<'a>, RecordFault>
         ensures { outcome_by piece result (view self.new) ≡ string_field (view self.old) }
     {
-        match self.rest {
-            [n, tail @ ..] => {
-                let n = usize::from(*n);
-                if tail.len() < n {
-                    return Err(RecordFault::Ragged { field: self.at });
-                }
-                let (bytes, rest) = tail.split_at(n);
-                let at = self.at + 1;
-                *self = Reader { rest, at: at + n };
-                Ok(Part { at, bytes })
-            }
-            [] => Err(RecordFault::Ragged { field: self.at }),
-        }
+        let field = self.at;
+        let n = usize::from(self.byte()?);
+        let (bytes, rest) = self
+            .rest
+            .split_at_checked(n)
+            .ok_or(RecordFault::Ragged { field })?;
+        let at = self.at;
+        *self = Reader { rest, at: at + n };
+        Ok(Part { at, bytes })
+    }
+
+    // A string that is read as a `T`.
+    fn text<T: Text<'a>>(&mut self) -> Result<T, RecordFault>
+        ensures { outcome_by T.seen result (view self.new) ≡ text_field T.reading (view self.old) }
+    {
+        Ok(T::read(self.string()?)?)
     }
 
     // A string that is a name.
     pub fn name(&mut self) -> Result<Part<'a>, RecordFault>
         ensures { outcome_by piece result (view self.new) ≡ name_field (view self.old) }
     {
-        let text = self.string()?;
-        let name = name_of(text)?;
-        Ok(name)
-    }
-
-    // A string that is a feature string.
-    fn form(&mut self) -> Result<FeatureString<'a>, RecordFault>
-        ensures { outcome_by form result (view self.new) ≡ form_field (view self.old) }
-    {
-        let text = self.string()?;
-        let form = form_of(text)?;
-        Ok(form)
+        self.text()
     }
 
     // A byte that is 0 or 1.
+    // `bool` is no `TryFrom<u8>`: one method for this and `edge` would take a trait with two impls.
     fn switch(&mut self) -> Result<bool, RecordFault>
         ensures { outcome result (view self.new) ≡ switch_field (view self.old) }
     {
@@ -124,12 +141,7 @@ impl<'a> Reader<'a> {
         ensures { outcome result (view self.new) ≡ edge_field (view self.old) }
     {
         let field = self.at;
-        match self.byte()? {
-            0 => Ok(Edge::Normal),
-            1 => Ok(Edge::Build),
-            2 => Ok(Edge::Dev),
-            _ => Err(RecordFault::Mark { field }),
-        }
+        Edge::try_from(self.byte()?).map_err(|_| RecordFault::Mark { field })
     }
 
     // The record ends here.
@@ -143,48 +155,38 @@ impl<'a> Reader<'a> {
         }
     }
 
-    // So many names.
-    fn each_name(&mut self, count: u8) -> Result<(), RecordFault>
-        ensures { outcome result (view self.new) ≡ void (many name_text count) (view self.old) }
+    // So many strings that are each read as a `T`.
+    fn each<T: Text<'a>>(&mut self, count: u8) -> Result<(), RecordFault>
+        ensures { outcome result (view self.new) ≡ void (many (text_field T.reading) count) (view self.old) }
     {
         for _i in 0..count {
-            self.name()?;
+            self.text::<T>()?;
         }
         Ok(())
     }
 
-    // So many feature strings.
-    fn each_form(&mut self, count: u8) -> Result<(), RecordFault>
-        ensures { outcome result (view self.new) ≡ void (many form_text count) (view self.old) }
+    // A count byte, and that many strings that are each read as a `T`.
+    fn list<T: Text<'a>>(&mut self) -> Result<Strings<'a>, RecordFault>
+        ensures { outcome_by texts result (view self.new) ≡ list_field (text_field T.reading) (view self.old) }
     {
-        for _i in 0..count {
-            self.form()?;
-        }
-        Ok(())
+        let count = self.byte()?;
+        let bytes = self.rest;
+        self.each::<T>(count)?;
+        Ok(Strings { count, bytes })
     }
 
     // A count byte, and that many names.
     fn names(&mut self) -> Result<Strings<'a>, RecordFault>
         ensures { outcome_by texts result (view self.new) ≡ names_field (view self.old) }
     {
-        let count = self.byte()?;
-        let at = self.at;
-        let bytes = self.rest;
-        self.each_name(count)?;
-        let part = Part { at, bytes };
-        Ok(Strings { count, part })
+        self.list::<Part>()
     }
 
     // A count byte, and that many feature strings.
     fn forms(&mut self) -> Result<Strings<'a>, RecordFault>
         ensures { outcome_by forms result (view self.new) ≡ forms_field (view self.old) }
     {
-        let count = self.byte()?;
-        let at = self.at;
-        let bytes = self.rest;
-        self.each_form(count)?;
-        let part = Part { at, bytes };
-        Ok(Strings { count, part })
+        self.list::<FeatureString>()
     }
 
     // The values of a feature, which end its record.

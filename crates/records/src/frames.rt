@@ -1,12 +1,13 @@
 // A file cut into records.
-ghost use Rattle.std.specs.Prelude.{◌≡◌};
+ghost use Rattle.std.specs.Prelude.{◌≡◌, ok_or};
 ghost use Rattle.text.specs.Views.{mapped};
-ghost use Rattle.records.specs.Frames.{frame, frame_of};
+ghost use Rattle.records.specs.declared.faults.RecordFault.TheVariants.{Stray};
+ghost use Rattle.records.specs.Frames.{kind_at, frame, frame_of};
 
 use crate::faults::RecordFault;
 
 // The kinds of records.
-#[derive(Clone, Copy)]
+#[derive(Clone, Copy, PartialEq, Eq, Debug)]
 pub enum Kind {
     Header,
     Package,
@@ -15,7 +16,25 @@ pub enum Kind {
     End,
 }
 
-// A record's kind, its body, and the bytes after it.
+impl TryFrom<u16> for Kind {
+    type Error = RecordFault;
+
+    ghost try_from_gives = { λ number r. r ≡ ok_or (kind_at number) Stray };
+
+    fn try_from(number: u16) -> Result<Kind, RecordFault> {
+        match number {
+            1 => Ok(Kind::Header),
+            2 => Ok(Kind::Package),
+            3 => Ok(Kind::Dependency),
+            4 => Ok(Kind::Feature),
+            5 => Ok(Kind::End),
+            _ => Err(RecordFault::Stray),
+        }
+    }
+}
+
+// A record's kind, its body, and the bytes after it. The kind is the number as it stands: which kinds there are, and
+// which may stand here, is asked after the frame.
 #[derive(Clone, Copy)]
 pub struct Frame<'a> {
     pub kind: u16,
@@ -27,17 +46,12 @@ pub struct Frame<'a> {
 pub fn first_frame<'a>(bytes: &'a [u8]) -> Result<Frame<'a>, RecordFault>
     ensures { mapped frame result ≡ frame_of bytes.now }
 {
-    let [a, b, c, d, rest @ ..] = bytes else {
-        return Err(RecordFault::Cut);
-    };
-    let long = u32::from_le_bytes([*a, *b, *c, *d]) as usize;
-    if rest.len() < long {
-        return Err(RecordFault::Cut);
-    }
-    let (inside, after) = rest.split_at(long);
-    let [low, high, body @ ..] = inside else {
-        return Err(RecordFault::Ragged { field: 0 });
-    };
-    let kind = u16::from_le_bytes([*low, *high]);
+    let (long, rest) = bytes.split_first_chunk::<4>().ok_or(RecordFault::Cut)?;
+    let long = u32::from_le_bytes(*long) as usize;
+    let (inside, after) = rest.split_at_checked(long).ok_or(RecordFault::Cut)?;
+    let (kind, body) = inside
+        .split_first_chunk::<2>()
+        .ok_or(RecordFault::Ragged { field: 0 })?;
+    let kind = u16::from_le_bytes(*kind);
     Ok(Frame { kind, body, after })
 }

@@ -6,6 +6,6 @@ pub mod bodies;
 pub mod faults;
 pub mod fields;
 pub mod frames;
-pub mod listing;
+pub mod lanes;
 pub mod reader;
 pub mod strings;

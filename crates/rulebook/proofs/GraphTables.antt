@@ -1,18 +1,15 @@
 -- The table of words that opening wrote is that of the graph.
-use Rattle.std.proofs.Common.{◌≡◌, ℕ, zero, suc, ◌+◌, ◌-◌, ◌*◌, ◌/◌, ◌%◌, ◌<◌, ◌≤◌, Bool, true, false, List, [], ◌∷◌, ◌++◌, length, get_or, drop, Some, None, Option, sym, refl, ap, ◌∙◌, subst, inl, inr, ⊎_elim, arith, length-append}
+use Rattle.std.proofs.Common.{◌≡◌, ℕ, zero, suc, ◌+◌, ◌-◌, ◌*◌, ◌/◌, ◌%◌, ◌<◌, ◌≤◌, true, false, List, [], ◌∷◌, ◌++◌, length, get_or, drop, Some, None, Option, sym, refl, ap, ◌∙◌, subst, inl, inr, ⊎_elim, arith, length-append}
 use lib.Arith.{digits_mod}
 use Rattle.std.proofs.lemmas.List.{length-map, get_or-map}
 use Rattle.std.proofs.lemmas.Bool.{cond-true, and_from, le-leb, cases_lt}
 use Rattle.records.specs.Graphs.{Graph}
-use Rattle.records.specs.Encoding.{bit, edge_number}
-use Rattle.records.specs.declared.bodies.Edge.{Edge}
-use Rattle.records.specs.declared.bodies.Edge.TheVariants.{Normal, Build, Dev}
 use Rattle.graph.specs.declared.rows.Row.{Row}
 use Rattle.graph.specs.Law.{dependency_count, feature_count}
 use Rattle.graph.specs.Opening.{over}
 use Rattle.graph.specs.OpeningLaw.{In, NamedAt, Opens, Resolved, Stands, needs, builds, defaults, asks, plainly, switches, joins}
-use Rattle.graph.specs.Places.{Item, unit, feat, proc_of, number, item_count}
-use Rattle.graph.specs.Rules.{Rule, no_dependency, rules, rows, row_of, graph_words, on_some}
+use Rattle.graph.specs.Places.{Item, unit, feat, number, item_count}
+use Rattle.graph.specs.Rules.{Rule, rules, rows, row_of, graph_words, on_some}
 use Rattle.graph.proofs.RulesStand.{rule-stands, stands-rule}
 use Rattle.policy.specs.declared.sides.Side.{Side}
 use Rattle.policy.specs.declared.sides.Side.TheVariants.{Target, Host}
@@ -34,34 +31,26 @@ abbrev Held : {A : Type 0} → (A → Type 0) → Option A → Type 0
 Held P None = Unit {0}
 Held P (Some x) = P x
 
--- a rule of a graph names items of the graph, and a lane
+-- a rule of a graph names items of the graph
 record Sane (g : Graph) (ρ : Rule) : Type 0 where
   from : Has g ρ.from
   mate : Held (Has g) ρ.mate
   to : Has g ρ.to
-  lane : ρ.lane ≤ no_dependency
-
-lane_low : (e : Edge) (b : Bool) → edge_number e + 3 * bit b ≤ no_dependency
-lane_low Normal false = omega arith
-lane_low Normal true = omega arith
-lane_low Build false = omega arith
-lane_low Build true = omega arith
-lane_low Dev false = omega arith
-lane_low Dev true = omega arith
 
 named-has : (g : Graph) (p k : ℕ) (n : List ℕ) → NamedAt g p k n → Has g (feat p k)
 named-has g p k n h = h.1.0
 
 module _ (g : Graph) (resolved : Resolved g) where
   sane : (ρ : Rule) → Stands g ρ → Sane g ρ
-  sane ρ (needs {p} {k} {d} at o) = record { from = dependency-owner g p k at.0; mate = tt; to = at.0; lane = lane_low d.edge (proc_of g d.end) }
-  sane ρ (builds {p} {k} {d} at) = record { from = at.0; mate = tt; to = resolved.ends p k d at; lane = lane_low d.edge (proc_of g d.end) }
-  sane ρ (defaults {p} {k} {j} {d} at o n) = record { from = at.0; mate = tt; to = n.1.0; lane = lane_low d.edge (proc_of g d.end) }
-  sane ρ (asks {p} {k} {j} {d} {n} at i m) = record { from = at.0; mate = tt; to = m.1.0; lane = lane_low d.edge (proc_of g d.end) }
-  sane ρ (plainly {p} {j} {i} {f} {n} at v m) = record { from = at.0; mate = tt; to = m.1.0; lane = omega arith }
-  sane ρ (switches {p} {j} {k} {f} {d} {n} at v dat e o) = record { from = at.0; mate = tt; to = dat.0; lane = lane_low d.edge (proc_of g d.end) }
-  sane ρ (joins {p} {j} {k} {i} {f} {d} {n} {x} at v dat e m) = record { from = at.0; mate = dat.0; to = m.1.0; lane = lane_low d.edge (proc_of g d.end) }
+  sane ρ (needs {p} {k} {d} at o) = record { from = dependency-owner g p k at.0; mate = tt; to = at.0 }
+  sane ρ (builds {p} {k} {d} at) = record { from = at.0; mate = tt; to = resolved.ends p k d at }
+  sane ρ (defaults {p} {k} {j} {d} at o n) = record { from = at.0; mate = tt; to = n.1.0 }
+  sane ρ (asks {p} {k} {j} {d} {n} at i m) = record { from = at.0; mate = tt; to = m.1.0 }
+  sane ρ (plainly {p} {j} {i} {f} {n} at v m) = record { from = at.0; mate = tt; to = m.1.0 }
+  sane ρ (switches {p} {j} {k} {f} {d} {n} at v dat e o) = record { from = at.0; mate = tt; to = dat.0 }
+  sane ρ (joins {p} {j} {k} {i} {f} {d} {n} {x} at v dat e m) = record { from = at.0; mate = dat.0; to = m.1.0 }
 
+-- between `In`, which goes by recursion, and a place, as the library's `Contains` has it
 in-at : {A : Type 0} (xs : List A) (r : ℕ) (d : A) → r < length xs → In (get_or xs r d) xs
 in-at [] r d h = absurd (omega arith)
 in-at (x ∷ xs) zero d h = inl refl
@@ -73,7 +62,7 @@ at_in x (y ∷ xs) d (inl e) = (0, omega arith, sym e)
 at_in x (y ∷ xs) d (inr m) = let (r, l, e) = at_in x xs d m in (suc r, omega arith, e)
 
 abbrev no_rule : Rule
-no_rule = record { from = unit 0; mate = None; to = unit 0; lane = 0; cross = false }
+no_rule = record { from = unit 0; mate = None; to = unit 0; lane = None; cross = false }
 
 held_below : (g : Graph) (m : Option Item) → Held (Has g) m → Among (λ j. j < item_count g) (on_some (number g) m)
 held_below g None h = tt
@@ -121,7 +110,7 @@ module _ (file words : List ℕ) (g : Graph) (opens : Opens file words g) (answe
       let e : get_or (rows g) r (row_of g no_rule) ≡ row_of g (rule_at r) = get_or-map (row_of g) (rules g) r no_rule (row_of g no_rule) (fewer r h) in
       let k = sane g opens.resolved (rule_at r) (rule-stands g (rule_at r) (in-at (rules g) r no_rule (fewer r h))) in
       row_back (length g) (dependency_count g) (feature_count g) count (rows g) xs n r (row_of g no_rule) h
-      (subst (InRange n) (sym e) (range (rule_at r) k)) (omega (arith, small)) (subst (λ (w : Row). w.lane ≤ no_dependency) (sym e) k.lane)
+      (subst (InRange n) (sym e) (range (rule_at r) k)) (omega (arith, small))
       ∙ ap Some e
 
   abbrev rule : ℕ → ℕ → Option ItemRule

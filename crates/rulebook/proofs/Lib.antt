@@ -3,3 +3,4 @@ pub mod SideSeeks
 pub mod ItemPlaces
 pub mod RowWords
 pub mod GraphTables
+pub mod HouseRows

@@ -1,22 +1,26 @@
 -- What an item watches is what the rows of its side give it.
-use Rattle.std.proofs.Common.{◌≡◌, ℕ, ◌-◌, ◌/◌, true, ltb, List, Some, None, Option, sym, refl, ap, ◌∙◌, arith}
-use Rattle.std.proofs.lemmas.Bool.{and_parts}
+use Rattle.std.proofs.Common.{◌≡◌, ℕ, ◌-◌, ◌/◌, ltb, List, Some, None, Option, Result, sym, refl, ap, ◌∙◌, arith}
+use Rattle.std.specs.Option.{ok_or}
+use Rattle.std.specs.Result.{result_ok}
 use Rattle.graph.specs.declared.rows.Row.{Row}
 use Rattle.policy.specs.declared.sides.Side.{Side}
-use Rattle.policy.specs.Sides.{side_at}
+use Rattle.policy.specs.declared.sides.UnknownSide.{UnknownSide}
+use Rattle.policy.specs.Sides.{side_at, unknown}
 use Rattle.policy.specs.Answers.{Answers}
 use Rattle.rulebook.specs.Tables.{first_of, seek}
-use Rattle.rulebook.specs.Watch.{in_range, entry_in}
-use Rattle.rulebook.specs.GraphTable.{local_count, row_count, row_at, is_row, row_read, row_in, rule_on, rule_for, graph_table}
+use Rattle.rulebook.specs.Watch.{entry_in}
+use Rattle.rulebook.specs.GraphTable.{local_count, row_count, row_read, row_in, rule_on, rule_for, graph_table}
 use Rattle.rulebook.specs.GraphLaws.{read-range}
 use Rattle.rulebook.specs.RuleLaws.{cond-some}
 use Rattle.rulebook.proofs.Scans.{first-none}
 
-pub read_known : (n : ℕ) (ws : List ℕ) (r : ℕ) (row : Row) → row_read n ws r ≡ Some row → in_range n row.from row.mate row.to ≡ true
-read_known n ws r row h =
-    let c = cond-some (is_row n ws r) (Some (row_at ws r)) row h in
-    let e : row_at ws r ≡ row = cc c.1 in
-    ap (λ (w : Row). in_range n w.from w.mate w.to) (sym e) ∙ (and_parts (in_range n (row_at ws r).from (row_at ws r).mate (row_at ws r).to) _ c.0).0
+-- the side of a number, as it is asked for
+pub side-known : (k : ℕ) {r : Result Side UnknownSide} {o : Option Side} → r ≡ ok_or (side_at k) (unknown k) → o ≡ result_ok r → o ≡ side_at k
+side-known k e h = h ∙ ap result_ok e ∙ go (side_at k)
+  where
+    go : (s : Option Side) → result_ok (ok_or s (unknown k)) ≡ s
+    go None = refl
+    go (Some x) = refl
 
 no-rule : (answers : Answers) (n : ℕ) (side : Option Side) → rule_for answers n side None ≡ None
 no-rule answers n None = refl

@@ -1,10 +1,10 @@
 -- The graph book keeps the laws of tables, for any words. A proof, which stands here as RuleLaws does.
-use Rattle.std.specs.Prelude.{◌≡◌, ℕ, ◌+◌, ◌*◌, ◌/◌, ◌<◌, ◌≤◌, Bool, true, false, cond, ◌&&◌, List, length, Some, None, Option, nat_le, nat_lt, slice_index, refl}
+use Rattle.std.specs.Prelude.{◌≡◌, ℕ, ◌+◌, ◌*◌, ◌/◌, ◌<◌, ◌≤◌, Bool, true, false, cond, ◌&&◌, List, length, take, drop, Some, None, Option, nat_le, nat_lt, slice_index, refl}
 use Rattle.std.proofs.Common.{sym, ap, ◌∙◌, subst, inl, inr, arith}
 use Rattle.std.proofs.Math.Arith.{digits_div}
 use Rattle.std.proofs.lemmas.Bool.{and_parts, leb-true, ltb-true}
 use Rattle.graph.specs.declared.rows.Row.{Row}
-use Rattle.graph.specs.Rules.{on_some}
+use Rattle.graph.specs.Rules.{row_from, on_some}
 use Rattle.policy.specs.declared.sides.Side.{Side}
 use Rattle.policy.specs.declared.sides.Side.TheVariants.{Target, Host}
 use Rattle.policy.specs.Sides.{sides, side_number, side_at}
@@ -13,7 +13,7 @@ use Rattle.policy.proofs.Numbers.{side-back}
 use Rattle.rulebook.specs.declared.entries.ItemRule.{ItemRule}
 use Rattle.rulebook.specs.Tables.{Laws, Among}
 use Rattle.rulebook.specs.Watch.{in_range, is_below}
-use Rattle.rulebook.specs.GraphTable.{is_whole, local_count, row_count, row_at, is_row, row_read, row_in, landing, row_lead, item_on, rule_to, rule_on, rule_for, graph_table}
+use Rattle.rulebook.specs.GraphTable.{is_whole, local_count, row_count, row_within, row_read, row_in, landing, row_lead, item_on, rule_to, rule_on, rule_for, graph_table}
 use Rattle.rulebook.specs.RuleLaws.{cond-some, Premise, Known, rule-laws}
 
 pub whole_parts : (ws : List ℕ) → is_whole ws ≡ true →
@@ -56,11 +56,15 @@ in-range n row h =
     let b = and_parts (nat_lt row.to n) (is_below n row.mate) a.1 in
     record { from = ltb-true row.from n a.0; to = ltb-true row.to n b.0; mate = below-among n row.mate b.1 }
 
+within-range : (n : ℕ) (o : Option Row) (row : Row) → row_within n o ≡ Some row → in_range n row.from row.mate row.to ≡ true
+within-range n None row h = absurd (let z : ◌≡◌ {A = ℕ} 0 1 = cc in omega arith)
+within-range n (Some w) row h =
+    let c = cond-some (in_range n w.from w.mate w.to) (Some w) row h in
+    let e : w ≡ row = cc c.1 in
+    ap (λ (v : Row). in_range n v.from v.mate v.to) (sym e) ∙ c.0
+
 pub read-range : (n : ℕ) (ws : List ℕ) (r : ℕ) (row : Row) → row_read n ws r ≡ Some row → InRange n row
-read-range n ws r row h =
-    let c = cond-some (is_row n ws r) (Some (row_at ws r)) row h in
-    let e : row_at ws r ≡ row = cc c.1 in
-    subst (InRange n) e (in-range n (row_at ws r) (and_parts (in_range n (row_at ws r).from (row_at ws r).mate (row_at ws r).to) _ c.0).0)
+read-range n ws r row h = in-range n row (within-range n (row_from (take 5 (drop (4 + 5 * r) ws))) row h)
 
 -- an item of a side is found again from its number
 pub item-low : (n : ℕ) (s : Side) (l : ℕ) → l < n → item_on n s l < sides * n

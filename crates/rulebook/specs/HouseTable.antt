@@ -1,6 +1,6 @@
 -- What a house book means: rules between items by number.
-use Rattle.std.specs.Prelude.{ℕ, ◌+◌, ◌*◌, ◌/◌, min, cond, List, length, Some, None, Option, ◌==◌, nat_le, nat_lt, slice_index}
-use Rattle.graph.specs.Rules.{none}
+use Rattle.std.specs.Prelude.{ℕ, ◌+◌, ◌*◌, ◌/◌, min, cond, List, length, Some, None, Option, nat_le, nat_lt, slice_index}
+use Rattle.graph.specs.Rules.{mate_of}
 use Rattle.rulebook.specs.declared.entries.ItemRule.{ItemRule}
 use Rattle.rulebook.specs.Tables.{Table, most_items}
 use Rattle.rulebook.specs.Watch.{in_range, rule_table}
@@ -15,9 +15,6 @@ most_house_rows = 4096
 
 abbrev pub house_rows : List ℕ → ℕ
 house_rows ws = min (length ws / 3) most_house_rows
-
-abbrev pub mate_of : ℕ → Option ℕ
-mate_of w = cond (w == none) None (Some w)
 
 abbrev pub house_row : List ℕ → ℕ → ItemRule
 house_row ws r = record { from = slice_index ws (3 * r); mate = mate_of (slice_index ws (3 * r + 1)); to = slice_index ws (3 * r + 2) }

@@ -16,7 +16,7 @@ pub trait Rulebook {
     fn rows(&self) -> u32
         ensures { result ≡ (table self.now).rows };
 
-    // The first watch entry of an item at or after a row.
+    // The first watch entry of an item at or after a row: two numbers that only go together here.
     fn seek(&self, item: u32, row: u32) -> Option<Found>
         ensures { result ≡ seek (table self.now) item row };
 

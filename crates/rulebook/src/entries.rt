@@ -2,8 +2,9 @@
 ghost use Rattle.std.specs.Prelude.{◌≡◌};
 ghost use Rattle.rulebook.specs.Watch.{watched, in_range};
 
-// A rule: with `from` and `mate`, if there is one, active, `to` is to be. They are item numbers.
-#[derive(Clone, Copy)]
+// A rule: with `from` and `mate`, if there is one, active, `to` is to be. They are item numbers, of a book
+// or, while a row is tested, of its words; a row has a lane and `cross` too, so that the two share no type.
+#[derive(Clone, Copy, PartialEq, Eq, Debug)]
 pub struct ItemRule {
     pub from: u32,
     pub mate: Option<u32>,
@@ -29,30 +30,24 @@ impl ItemRule {
     pub fn watch(self, item: u32) -> Option<Entry>
         ensures { result ≡ watched self item }
     {
+        let partner = if self.from == item {
+            self.mate
+        } else if self.mate == Some(item) {
+            Some(self.from)
+        } else {
+            return None;
+        };
         let conclusion = self.to;
-        if self.from == item {
-            return Some(Entry {
-                partner: self.mate,
-                conclusion,
-            });
-        }
-        match self.mate {
-            Some(mate) if mate == item => Some(Entry {
-                partner: Some(self.from),
-                conclusion,
-            }),
-            _ => None,
-        }
+        Some(Entry {
+            partner,
+            conclusion,
+        })
     }
 
     // Whether the rule names only items below a count.
     pub(crate) fn is_below(self, count: u32) -> bool
         ensures { result ≡ in_range count self.from self.mate self.to }
     {
-        let mate = match self.mate {
-            Some(mate) => mate < count,
-            None => true,
-        };
-        self.from < count && self.to < count && mate
+        self.from < count && self.to < count && self.mate.is_none_or(|mate| mate < count)
     }
 }

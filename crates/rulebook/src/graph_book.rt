@@ -15,11 +15,8 @@ use crate::rule_rows::first_entry;
 use crate::side_rows::{SideRows, local_count, row_count};
 use crate::words::Words;
 use policy::answers::Policy;
-use policy::sides::Side;
+use policy::sides::{SIDES, Side};
 use policy::told::Told;
-
-// How many sides there are.
-const SIDES: u32 = 2;
 
 // The rules of any words, with the answers of a policy.
 #[derive(Clone, Copy)]
@@ -56,13 +53,8 @@ impl<W: Words> Rulebook for GraphBook<W> {
 
     fn seek(&self, item: u32, row: u32) -> Option<Found> {
         let words = self.words.words();
-        let count = local_count(words);
-        if count == 0 {
-            return None;
-        }
-        let Some(side) = Side::of_number(item / count) else {
-            return None;
-        };
+        let number = item.checked_div(local_count(words))?;
+        let side = Side::try_from(number).ok()?;
         first_entry(&SideRows::of(words, &self.told, side), item, row)
     }
 }

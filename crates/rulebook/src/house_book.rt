@@ -1,12 +1,13 @@
 // The house book: rules between items, written by hand.
-ghost use Rattle.std.specs.Prelude.{◌≡◌, ◌+◌, ◌*◌, ◌≤◌, length};
-ghost use Rattle.rulebook.specs.HouseTable.{count_of, house_rows, house_row, house_rule, house_table, mate_of, rule_within};
+ghost use Rattle.std.specs.Prelude.{◌≡◌, ℕ, ◌*◌, ◌<◌, [], length, take, drop, slice_index_or};
+ghost use Rattle.rulebook.specs.HouseTable.{count_of, house_rows, house_rule, house_table};
 ghost use Rattle.std.proofs.Common.{rules};
 
 use crate::book::Rulebook;
 use crate::entries::{Found, ItemRule};
 use crate::rule_rows::{RuleRows, first_entry};
 use crate::words::Words;
+use graph::rows::mate_of;
 
 // The most items of a rulebook.
 pub const MOST_ITEMS: u32 = 73_728;
@@ -16,9 +17,6 @@ const MOST_ROWS: usize = 4_096;
 
 const WIDTH: usize = 3;
 
-// The word that means none.
-const NONE: u32 = u32::MAX;
-
 // Rules over `items` items: each three words, from, with, to, are one.
 #[derive(Clone, Copy)]
 pub struct HouseBook<W> {
@@ -26,35 +24,17 @@ pub struct HouseBook<W> {
     pub words: W,
 }
 
-// The item that a word names, if any.
-pub(crate) fn mate_of(word: u32) -> Option<u32>
-    ensures { result ≡ mate_of word }
+// The whole rows of the words, up to the limit.
+fn rows(words: &[u32]) -> &[[u32; WIDTH]]
+    ensures len { length result.now ≡ house_rows words.now }
+    ensures each { (r : ℕ) → r < length result.now → slice_index_or result.now r [] ≡ take 3 (drop (3 * r) words.now) }
 {
-    if word == NONE { None } else { Some(word) }
-}
-
-// The row at a place of the words.
-fn row_at(words: &[u32], row: u32) -> ItemRule
-    requires { 3 * row + 3 ≤ length words.now }
-    ensures { result ≡ house_row words.now row }
-{
-    let at = WIDTH * row as usize;
-    ItemRule {
-        from: words[at],
-        mate: mate_of(words[at + 1]),
-        to: words[at + 2],
-    }
-}
-
-// How many whole rows the words are, up to the limit.
-fn row_count(words: &[u32]) -> u32
-    ensures { result ≡ house_rows words.now }
-{
-    (words.len() / WIDTH).min(MOST_ROWS) as u32
+    let (rows, _) = words.as_chunks();
+    &rows[..rows.len().min(MOST_ROWS)]
 }
 
 impl<W: Words> HouseBook<W> {
-    // The item count, where it is within the limit.
+    // The item count, or 0 over the limit: such a book has no items.
     fn item_count(&self) -> u32
         ensures { result ≡ count_of self.now.items }
     {
@@ -72,20 +52,15 @@ impl<W: Words> RuleRows for HouseBook<W> {
     ghost rule = { λ s r. house_rule (count_of s.items) (W.Words.list s.words) r };
 
     fn count(&self) -> u32 {
-        row_count(self.words.words())
+        // at most 4,096, so `try_from` would only add an error that never comes
+        rows(self.words.words()).len() as u32
     }
 
     fn rule(&self, row: u32) -> Option<ItemRule> {
-        let words = self.words.words();
-        if row >= row_count(words) {
-            return None;
-        }
-        let rule = row_at(words, row);
-        if rule.is_below(self.item_count()) {
-            Some(rule)
-        } else {
-            None
-        }
+        let [from, with, to] = *rows(self.words.words()).get(row as usize)?;
+        let mate = mate_of(with);
+        let rule = ItemRule { from, mate, to };
+        rule.is_below(self.item_count()).then_some(rule)
     }
 }
 
@@ -99,7 +74,7 @@ impl<W: Words> Rulebook for HouseBook<W> {
     }
 
     fn rows(&self) -> u32 {
-        row_count(self.words.words())
+        self.count()
     }
 
     fn seek(&self, item: u32, row: u32) -> Option<Found> {

@@ -4,7 +4,7 @@ ghost use Rattle.rulebook.specs.declared.entries.ItemRule.{ItemRule};
 ghost use Rattle.rulebook.specs.Tables.{first_of};
 ghost use Rattle.rulebook.specs.Watch.{entry_in};
 
-use crate::entries::{Entry, Found, ItemRule};
+use crate::entries::{Found, ItemRule};
 
 // Some rows, each with a rule or none.
 pub trait RuleRows {
@@ -21,25 +21,12 @@ pub trait RuleRows {
         ensures { result ≡ rule self.now row };
 }
 
-// The watch entry of an item in a row with a rule or none.
-fn entry_in(rule: Option<ItemRule>, item: u32) -> Option<Entry>
-    ensures { result ≡ entry_in rule item }
-{
-    match rule {
-        Some(rule) => rule.watch(item),
-        None => None,
-    }
-}
-
 // The first watch entry of an item at or after a row.
 pub(crate) fn first_entry<R: RuleRows>(rows: &R, item: u32, row: u32) -> Option<Found>
     ensures { result ≡ first_of (λ k. entry_in (R.RuleRows.rule rows.now k) item) row (R.RuleRows.count rows.now - row) }
 {
-    for r in row..rows.count() {
-        match entry_in(rows.rule(r), item) {
-            Some(entry) => return Some(Found { row: r, entry }),
-            None => {}
-        }
-    }
-    None
+    (row..rows.count()).find_map(|row| {
+        let entry = rows.rule(row)?.watch(item)?;
+        Some(Found { row, entry })
+    })
 }

@@ -1,5 +1,6 @@
 -- What each state of the reader of feature strings tells of the bytes that led to it, and the reader's law.
 use Rattle.std.proofs.Common.{◌≡◌, ℕ, ◌+◌, Bool, true, ◌&&◌, ◌||◌, eqb, ltb, List, [], ◌∷◌, ◌++◌, length, take, drop, Some, codes, Result, sym, refl, ap, ◌∙◌, subst, ⊎_elim, append_assoc, append-nil, arith}
+use Rattle.std.proofs.Math.Seq.{drop-append-add}
 use Rattle.std.proofs.lemmas.List.{take_at, take_all, length_push}
 use Rattle.std.proofs.lemmas.Bool.{cond_both, eqb-true, ltb-true, and_parts, or_cases}
 use Rattle.text.specs.declared.faults.StringFault.{StringFault}
@@ -15,7 +16,7 @@ use Rattle.text.specs.Laws.{FormLaw}
 use Rattle.text.specs.Readers.{slash, question, colon, spelling, step, finish, from, upto, read_form}
 use Rattle.text.proofs.Machines.{Verdict, reads}
 use Rattle.text.proofs.NameRuns.{name-push, one_byte, letter}
-use Rattle.text.proofs.FormRuns.{Kept, past, accepts}
+use Rattle.text.proofs.FormRuns.{Kept, accepts}
 
 -- what stands before the last name
 abbrev Opens : Link → ℕ → List ℕ → Type 0
@@ -46,7 +47,7 @@ spelled p dep len c e h =
     ⊎-elim' : ((eqb len 1 && eqb c 101) ≡ true → p ++ c ∷ [] ≡ take (len + 1) (codes "dep")) → ((eqb len 2 && eqb c 112) ≡ true → p ++ c ∷ [] ≡ take (len + 1) (codes "dep")) → ((eqb len 1 && eqb c 101) || (eqb len 2 && eqb c 112)) ≡ true → p ++ c ∷ [] ≡ take (len + 1) (codes "dep")
     ⊎-elim' f g t = ⊎_elim f g (or_cases (eqb len 1 && eqb c 101) (eqb len 2 && eqb c 112) t)
 
--- a byte more, of which the test says which one it is
+-- a byte more, of which the test says which one it is; each step of the machine is shorter by it
 then : (p : List ℕ) (c b : ℕ) → eqb c b ≡ true → p ++ c ∷ [] ≡ p ++ b ∷ []
 then p c b h = ap (λ x. p ++ x ∷ []) (eqb-true c b h)
 
@@ -116,7 +117,7 @@ short s t b = record {
 parted : (n m : List ℕ) (cut k : ℕ) → length n ≡ cut → (upto cut (n ++ m) ≡ whole n) × (from (cut + k) (n ++ m) ≡ record { place = length n + k; text = drop k m })
 parted n m cut k e = (
   ap whole (take_at n m cut e),
-  subst (λ j. from (j + k) (n ++ m) ≡ record { place = length n + k; text = drop k m }) e (ap (λ x. record { place = length n + k; text = x }) (past n m k)),
+  subst (λ j. from (j + k) (n ++ m) ≡ record { place = length n + k; text = drop k m }) e (ap (λ x. record { place = length n + k; text = x }) (drop-append-add n m k)),
 )
 
 at-end : (s : State) (t : List ℕ) → Before s t → Verdict Lawful spell placed NoForm t (finish s t)

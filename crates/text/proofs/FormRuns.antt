@@ -1,7 +1,8 @@
 -- The reader of feature strings reads by their grammar.
-use Rattle.std.proofs.Common.{◌≡◌, ℕ, ◌+◌, ◌≤◌, Bool, true, ◌&&◌, eqb, ltb, List, [], ◌∷◌, ◌++◌, length, drop, Some, None, Ok, Option, sym, refl, ap, ◌∙◌, subst, append-nil, arith}
-use Rattle.std.proofs.lemmas.List.{take_at, drop_at, drop-drop}
-use Rattle.std.proofs.lemmas.Bool.{cond_both, cond-true, eqb-true, and_parts}
+use Rattle.std.proofs.Common.{◌≡◌, ℕ, ◌+◌, ◌<◌, ◌≤◌, Bool, true, cond, ◌&&◌, eqb, ltb, List, [], ◌∷◌, ◌++◌, length, Some, None, Ok, Option, sym, refl, ap, ◌∙◌, subst, append-nil, arith}
+use Rattle.std.proofs.Math.Seq.{drop-append-add}
+use Rattle.std.proofs.lemmas.List.{take_at}
+use Rattle.std.proofs.lemmas.Bool.{cond_both, cond-true, eqb-true, and_parts, and_from, lt-ltb}
 use Rattle.text.specs.declared.faults.StringFault.TheVariants.{NoForm}
 use Rattle.text.specs.declared.strings.Link.{Link}
 use Rattle.text.specs.declared.strings.Link.TheVariants.{Switch, Strong, Weak}
@@ -12,7 +13,6 @@ use Rattle.text.specs.Forms.{Form, plain, switch, strong, weak, Lawful, spell, w
 use Rattle.text.specs.Machines.{read_from}
 use Rattle.text.specs.Readers.{slash, question, colon, spelling, step, finish, read_form, Room}
 use Rattle.text.proofs.Machines.{read_some}
-use Rattle.text.proofs.Steps.{first_goes, last_goes}
 
 -- what a step answers keeps a fact of states
 abbrev pub Kept : (State → Type 0) → Option State → Type 0
@@ -39,6 +39,10 @@ room-more s s' c at e r = subst (Kept (λ x. Room x (at + 1))) e (room-kept s c 
 
 -- A lawful string is accepted, as its form.
 
+-- a byte goes on with a name that has room
+goes : {A : Type 0} (b len : ℕ) (x y : A) → inner b ≡ true → len < longest → cond (inner b && ltb len longest) x y ≡ x
+goes b len x y i l = cond-true _ _ _ (and_from (inner b) (ltb len longest) i (lt-ltb len longest l))
+
 -- bytes of the first name; what becomes of the flag does not matter
 first_run : (t : List ℕ) (len : ℕ) (dep : Bool) (at : ℕ) (bs rest : List ℕ) → Inner bs → len + length bs ≤ longest → (d : Bool) × (read_from step finish NoForm t (First len dep) at (bs ++ rest) ≡ read_from step finish NoForm t (First (len + length bs) d) (at + length bs) rest)
 first_run t len dep at [] rest i l =
@@ -50,7 +54,7 @@ first_run t len dep at (b ∷ bs) rest i l =
     let e : (len + 1) + length bs ≡ len + length (b ∷ bs) = omega arith in
     let k : (at + 1) + length bs ≡ at + length (b ∷ bs) = omega arith in (
       h.0,
-      read_some step finish NoForm t (First len dep) (First (len + 1) (spelling dep len b)) at b (bs ++ rest) (sym (first_goes b refl i.0 (omega arith) refl))
+      read_some step finish NoForm t (First len dep) (First (len + 1) (spelling dep len b)) at b (bs ++ rest) (goes b len _ _ i.0 (omega arith))
           ∙ h.1
           ∙ (λ j. read_from step finish NoForm t (First (e j) h.0) (k j) rest),
     )
@@ -76,7 +80,7 @@ last-run t link cut len at [] i l = same link
     same Strong = refl
     same Weak = refl
 last-run t link cut len at (b ∷ bs) i l =
-    read_some step finish NoForm t (Last link cut len) (Last link cut (len + 1)) at b bs (sym (last_goes b refl i.0 (omega arith)))
+    read_some step finish NoForm t (Last link cut len) (Last link cut (len + 1)) at b bs (goes b len _ _ i.0 (omega arith))
     ∙ last-run t link cut (len + 1) (at + 1) bs i.1 (omega arith)
 
 name-run : (t : List ℕ) (link : Link) (cut at : ℕ) (g : List ℕ) → Name g → read_from step finish NoForm t (Second link cut) at g ≡ finish (Last link cut 1) t
@@ -86,9 +90,6 @@ name-run t link cut at (b ∷ bs) n =
     ∙ last-run t link cut 1 (at + 1) bs n.1 (omega arith)
 
 -- what stands after the first name and k bytes more
-pub past : (n m : List ℕ) (k : ℕ) → drop (length n + k) (n ++ m) ≡ drop k m
-past n m k = sym (drop-drop k (length n) (n ++ m)) ∙ ap (drop k) (drop_at n m (length n) refl)
-
 pub accepts : (f : Form (List ℕ)) → Lawful f → read_form (spell f) ≡ Ok (placed f)
 accepts (plain g) l =
     let s = start-run g g [] l in
@@ -100,7 +101,7 @@ accepts (strong n g) l =
     s.1
     ∙ read_some step finish NoForm t (First (length n) s.0) (Second Strong (length n)) (length n) slash g refl
     ∙ name-run t Strong (length n) (length n + 1) g l.1
-    ∙ (λ i. Ok (strong (whole (take_at n (slash ∷ g) (length n) refl i)) (record { place = length n + 1; text = past n (slash ∷ g) 1 i })))
+    ∙ (λ i. Ok (strong (whole (take_at n (slash ∷ g) (length n) refl i)) (record { place = length n + 1; text = drop-append-add n (slash ∷ g) 1 i })))
 accepts (weak n g) l =
     let t : List ℕ = spell (weak n g) in
     let s = start-run t n (question ∷ slash ∷ g) l.0 in
@@ -108,4 +109,4 @@ accepts (weak n g) l =
     ∙ read_some step finish NoForm t (First (length n) s.0) (Asked (length n)) (length n) question (slash ∷ g) refl
     ∙ read_some step finish NoForm t (Asked (length n)) (Second Weak (length n)) (length n + 1) slash g refl
     ∙ name-run t Weak (length n) (length n + 1 + 1) g l.1
-    ∙ (λ i. Ok (weak (whole (take_at n (question ∷ slash ∷ g) (length n) refl i)) (record { place = length n + 2; text = past n (question ∷ slash ∷ g) 2 i })))
+    ∙ (λ i. Ok (weak (whole (take_at n (question ∷ slash ∷ g) (length n) refl i)) (record { place = length n + 2; text = drop-append-add n (question ∷ slash ∷ g) 2 i })))

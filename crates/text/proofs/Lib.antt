@@ -1,5 +1,3 @@
-pub mod Steps
-pub mod Ends
 pub mod Machines
 pub mod NameRuns
 pub mod FormRuns

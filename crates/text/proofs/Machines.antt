@@ -1,6 +1,6 @@
 -- Readers that take a string byte by byte, over any states and any grammar.
-use Rattle.std.proofs.Common.{◌≡◌, ℕ, zero, suc, ◌+◌, ◌<◌, ◌≤◌, List, [], ◌∷◌, ◌++◌, length, get_or, take, drop, Some, None, Ok, Err, Option, Result, sym, refl, ap, ◌∙◌, subst, append_assoc, append-nil, arith}
-use Rattle.std.proofs.lemmas.List.{at_drop_more, at_drop_all, length-append, length_push, take_at}
+use Rattle.std.proofs.Common.{◌≡◌, ℕ, zero, suc, ◌+◌, ◌<◌, List, [], ◌∷◌, ◌++◌, length, take, Some, None, Ok, Err, Option, Result, sym, refl, ap, ◌∙◌, subst, append_assoc, append-nil, arith}
+use Rattle.std.proofs.lemmas.List.{length-append, length_push, take_at}
 use Rattle.text.specs.declared.faults.StringFault.{StringFault}
 use Rattle.text.specs.Machines.{read_from}
 use Rattle.text.specs.Prefixes.{Begins, Longest}
@@ -22,23 +22,12 @@ module _ {S A : Type 0} (step : S → ℕ → Option S) (finish : S → List ℕ
   pub read_some : (t : List ℕ) (s s' : S) (at b : ℕ) (bs : List ℕ) → step s b ≡ Some s' → read_from step finish fault t s at (b ∷ bs) ≡ read_from step finish fault t s' (at + 1) bs
   read_some t s s' at b bs e = read-onward t s at b bs ∙ ap (λ o. onward t o at bs) e
 
-  -- a loop over the bytes of t, one byte on and at the end
-  pub loop-more : (r : Result A StringFault) (t : List ℕ) (s : S) (at : ℕ) (o : Option S) → at < length t → step s (get_or t at 0) ≡ o → read_from step finish fault t s at (drop at t) ≡ r → onward t o at (drop (at + 1) t) ≡ r
-  loop-more r t s at o l e h =
-      ap (λ x. onward t x at (drop (at + 1) t)) (sym e)
-      ∙ sym (read-onward t s at (get_or t at 0) (drop (at + 1) t))
-      ∙ sym (at_drop_more (read_from step finish fault t s at) t at 0 l)
-      ∙ h
-
-  pub loop-all : (r : Result A StringFault) (t : List ℕ) (s : S) (at : ℕ) → length t ≤ at → read_from step finish fault t s at (drop at t) ≡ r → finish s t ≡ r
-  loop-all r t s at l h = sym (at_drop_all (read_from step finish fault t s at) t at l) ∙ h
-
 -- what an answer has to be
 abbrev pub Verdict : {M A : Type 0} → (M → Type 0) → (M → List ℕ) → (M → A) → (ℕ → StringFault) → List ℕ → Result A StringFault → Type 0
 Verdict {M} Lawful spell told fault t (Ok a) = (m : M) × Lawful m × (t ≡ spell m) × (a ≡ told m)
 Verdict Lawful spell told fault t (Err e) = (k : ℕ) × (e ≡ fault k) × Longest Lawful spell t k
 
--- a longer prefix holds the byte after p
+-- a longer prefix holds the byte after p: something is left, which the library's `take-append-add` does not say
 take_past : (p : List ℕ) (c : ℕ) (bs : List ℕ) (j : ℕ) → length p < j → (m : List ℕ) × (take j (p ++ c ∷ bs) ≡ p ++ c ∷ m)
 take_past [] c bs zero l = absurd (omega arith)
 take_past [] c bs (suc j) l = (take j bs, refl)

@@ -9,10 +9,7 @@ use crate::strings::read_feature_string;
 fn refused_at(text: &[u8], place: usize) -> bool
     ensures { Decides result (RefusedAt text.now place) }
 {
-    match read_feature_string(text) {
-        Err(StringFault::NoForm { prefix }) => prefix == place,
-        _ => false,
-    }
+    read_feature_string(text) == Err(StringFault::NoForm { prefix: place })
 }
 
 // Reads each worked example, and says whether all are answered as the table has them.

@@ -14,11 +14,7 @@ pub const LONGEST_NAME: usize = 64;
 fn fits_name(at: usize, c: char) -> bool
     ensures { result ≡ allowed at c }
 {
-    match (at, c) {
-        (0, initial!()) => true,
-        (1..LONGEST_NAME, inner!()) => true,
-        _ => false,
-    }
+    matches!((at, c), (0, initial!()) | (1..LONGEST_NAME, inner!()))
 }
 
 // Reads a string as a name. The answer is the whole string, as a part of itself.

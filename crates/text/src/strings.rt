@@ -35,12 +35,10 @@ enum State {
 fn spells_dep(dep: bool, len: usize, c: char) -> bool
     ensures { result ≡ spelling dep len c }
 {
-    match (dep, len, c) {
-        (true, 0, 'd') => true,
-        (true, 1, 'e') => true,
-        (true, 2, 'p') => true,
-        _ => false,
-    }
+    matches!(
+        (dep, len, c),
+        (true, 0, 'd') | (true, 1, 'e') | (true, 2, 'p')
+    )
 }
 
 // The state after `c`, or none where no lawful string goes on so.
@@ -72,8 +70,10 @@ fn part_before<'a>(text: &'a [u8], at: usize) -> Part<'a>
     requires { at ≤ length text.now }
     ensures { piece result ≡ upto at text.now }
 {
-    let bytes = &text[0..at];
-    Part { at: 0, bytes }
+    Part {
+        at: 0,
+        bytes: &text[..at],
+    }
 }
 
 // The part of a string from a place on.
@@ -81,8 +81,10 @@ fn part_from<'a>(text: &'a [u8], at: usize) -> Part<'a>
     requires { at ≤ length text.now }
     ensures { piece result ≡ from at text.now }
 {
-    let bytes = &text[at..];
-    Part { at, bytes }
+    Part {
+        at,
+        bytes: &text[at..],
+    }
 }
 
 // The name after `dep:`.
@@ -140,10 +142,7 @@ pub fn read_feature_string<'a>(text: &'a [u8]) -> Result<FeatureString<'a>, Stri
 {
     let mut state = State::Start;
     for (at, b) in text.iter().enumerate() {
-        let Some(after) = next(state, char::from(*b)) else {
-            return Err(StringFault::NoForm { prefix: at });
-        };
-        state = after;
+        state = next(state, char::from(*b)).ok_or(StringFault::NoForm { prefix: at })?;
     }
     ended(state, text)
 }

@@ -1,83 +1,101 @@
 // A graph as packages that own their dependencies and features.
+use crate::kinds::EdgeKind;
 use crate::opener::stops::Place;
 use std::collections::BTreeMap;
-
-// A string of a record, and the place of its first byte there.
-#[derive(Drop)]
-pub struct Text {
-    pub at: usize,
-    pub bytes: Vec<u8>,
-}
+use text::parts::{FeatureString, Part};
 
 // What a value with a link says: the name of dependencies, whether it turns them on, and the feature of their ends
-// that it turns on, if any.
-#[derive(Drop)]
-pub struct Link {
-    pub name: Vec<u8>,
+// that it turns on, if any. The listing asks for each apart, so that an enum of the three would be matched twice.
+#[derive(Clone, Copy)]
+pub struct Link<'a> {
+    pub name: &'a [u8],
     pub switches: bool,
-    pub feature: Option<Vec<u8>>,
+    pub feature: Option<&'a [u8]>,
 }
 
-#[derive(Drop)]
-pub enum Form {
-    Plain(Vec<u8>),
-    Linked(Link),
+#[derive(Clone, Copy)]
+pub enum Form<'a> {
+    Plain(&'a [u8]),
+    Linked(Link<'a>),
 }
 
-#[derive(Drop)]
-pub struct Value {
+impl<'a> From<FeatureString<'a>> for Form<'a> {
+    fn from(string: FeatureString<'a>) -> Form<'a> {
+        let (name, switches, feature) = match string {
+            FeatureString::Plain { feature } => return Form::Plain(feature.bytes),
+            FeatureString::Switch { dependency } => (dependency.bytes, true, None),
+            FeatureString::Strong {
+                dependency,
+                feature,
+            } => (dependency.bytes, true, Some(feature.bytes)),
+            FeatureString::Weak {
+                dependency,
+                feature,
+            } => (dependency.bytes, false, Some(feature.bytes)),
+        };
+        Form::Linked(Link {
+            name,
+            switches,
+            feature,
+        })
+    }
+}
+
+// A value, and the place of its first byte in the record.
+#[derive(Clone, Copy)]
+pub struct Value<'a> {
     pub at: usize,
-    pub form: Form,
+    pub form: Form<'a>,
 }
 
 #[derive(Drop)]
-pub struct Dependency {
+pub struct Dependency<'a> {
     pub place: Place,
     pub number: u32,
     pub end: u16,
-    pub kind: u8,
+    pub kind: EdgeKind,
     pub optional: bool,
     pub defaults: bool,
-    pub name: Vec<u8>,
-    pub asks: Vec<Text>,
+    pub name: &'a [u8],
+    pub asks: Vec<Part<'a>>,
 }
 
 #[derive(Drop)]
-pub struct Feature {
+pub struct Feature<'a> {
     pub place: Place,
     pub number: u32,
-    pub values: Vec<Value>,
+    pub values: Vec<Value<'a>>,
 }
 
 #[derive(Drop)]
-pub struct Package {
+pub struct Package<'a> {
     pub number: u32,
     pub proc_mark: bool,
-    pub dependencies: Vec<Dependency>,
-    pub features: Vec<Feature>,
-    // the number of each feature by its name
+    pub dependencies: Vec<Dependency<'a>>,
+    pub features: Vec<Feature<'a>>,
+    // the number of each feature by its name; the list keeps their order, which a map has not
     pub numbers: BTreeMap<Vec<u8>, u32>,
 }
 
-// The packages, and how many packages, dependencies and features there are.
+// The packages, and how many packages, dependencies and features there are: numbers of 32 bits, which a length is not.
 #[derive(Drop)]
-pub struct Graph {
-    pub packages: Vec<Package>,
+pub struct Graph<'a> {
+    pub packages: Vec<Package<'a>>,
     pub count: u32,
     pub dependencies: u32,
     pub features: u32,
 }
 
-impl Package {
+impl<'a> Package<'a> {
     // The number of its feature of that name.
     pub fn feature(&self, name: &[u8]) -> Option<u32> {
         self.numbers.get(name).copied()
     }
 }
 
-impl Graph {
+impl<'a> Graph<'a> {
     // The package that a dependency leads to.
-    pub fn end(&self, dependency: &Dependency) -> Option<&Package> {
-        self.packages.as_slice().get(usize::from(dependency.end))
+    pub fn end(&self, dependency: &Dependency<'a>) -> Option<&Package<'a>> {
+        self.packages.get(usize::from(dependency.end))
     }
 }

@@ -1,157 +1,186 @@
-// The rule rows of a lawful graph, as words.
+// The rule rows of a lawful graph.
+use crate::kinds::EdgeKind;
 use crate::opener::graphs::{Dependency, Feature, Form, Graph, Link, Package};
 use std::alloc::{AllocError, Global};
 
-const NONE: u32 = 4_294_967_295;
+// What a row tells of the dependency that it is about.
+#[derive(Clone, Copy)]
+struct Lane {
+    kind: EdgeKind,
+    to_proc: bool,
+}
 
-// the lane of rows that are about no dependency
-const NO_DEPENDENCY: u32 = 6;
+// A row of this opener's own, so that its words are a second computation too.
+#[derive(Clone, Copy)]
+pub struct Row {
+    from: u32,
+    mate: Option<u32>,
+    to: u32,
+    lane: Option<Lane>,
+    cross: bool,
+}
 
 // A dependency as rows name it: its item, its lane, and the package that it leads to.
 #[derive(Clone, Copy)]
-struct Edge<'a> {
+struct Edge<'g, 'a> {
     item: u32,
-    lane: u32,
-    end: &'a Package,
+    lane: Lane,
+    end: &'g Package<'a>,
 }
 
-// The list of rows so far, and what the items of a graph are counted from.
-#[derive(Drop)]
-struct Listing {
-    words: Vec<u32>,
-    packages: u32,
-    dependencies: u32,
-}
-
-impl Listing {
-    fn feature_item(&self, number: u32) -> u32 {
-        self.packages
-            .saturating_add(self.dependencies)
-            .saturating_add(number)
-    }
-
-    fn row(&mut self, row: [u32; 5]) -> Result<(), AllocError> {
-        self.words.extend_from_slice(&row)
-    }
-
-    fn edge<'a>(&self, graph: &'a Graph, dependency: &Dependency) -> Option<Edge<'a>> {
-        let end = graph.end(dependency)?;
-        let kind = u32::from(dependency.kind);
+impl<'a> Graph<'a> {
+    fn edge(&self, dependency: &Dependency<'a>) -> Option<Edge<'_, 'a>> {
+        let end = self.end(dependency)?;
         Some(Edge {
-            item: self.packages.saturating_add(dependency.number),
-            lane: if end.proc_mark {
-                kind.saturating_add(3)
-            } else {
-                kind
+            item: self.count.saturating_add(dependency.number),
+            lane: Lane {
+                kind: dependency.kind,
+                to_proc: end.proc_mark,
             },
             end,
         })
     }
 
-    // The row to the feature of that name, if the package has it.
-    fn row_to(
-        &mut self,
-        from: u32,
-        with: u32,
-        package: &Package,
-        name: &[u8],
-        lane: u32,
-        cross: u32,
-    ) -> Result<(), AllocError> {
-        match package.feature(name) {
-            Some(number) => self.row([from, with, self.feature_item(number), lane, cross]),
-            None => Ok(()),
-        }
+    fn feature_item(&self, number: u32) -> u32 {
+        self.count
+            .saturating_add(self.dependencies)
+            .saturating_add(number)
     }
 
-    fn dependency(
-        &mut self,
-        owner: &Package,
-        dependency: &Dependency,
-        edge: Edge<'_>,
-    ) -> Result<(), AllocError> {
-        let Edge { item, lane, end } = edge;
-        if !dependency.optional {
-            self.row([owner.number, NONE, item, lane, 0])?;
-        }
-        self.row([item, NONE, end.number, lane, 1])?;
-        if dependency.defaults {
-            self.row_to(item, NONE, end, b"default", lane, 1)?;
-        }
-        for ask in dependency.asks.iter() {
-            self.row_to(item, NONE, end, ask.bytes.as_slice(), lane, 1)?;
-        }
-        Ok(())
-    }
-
-    // The rows of a value that names dependencies.
-    fn linked(
-        &mut self,
-        graph: &Graph,
-        owner: &Package,
-        from: u32,
-        link: &Link,
-    ) -> Result<(), AllocError> {
-        for dependency in owner.dependencies.iter() {
-            if dependency.name.as_slice() != link.name.as_slice() {
-                continue;
-            }
-            if let Some(Edge { item, lane, end }) = self.edge(graph, dependency) {
-                if link.switches && dependency.optional {
-                    self.row([from, NONE, item, lane, 0])?;
-                }
-                if let Some(g) = &link.feature {
-                    self.row_to(from, item, end, g.as_slice(), lane, 1)?;
-                }
-            }
-        }
-        Ok(())
-    }
-
-    fn value(
-        &mut self,
-        graph: &Graph,
-        owner: &Package,
-        from: u32,
-        form: &Form,
-    ) -> Result<(), AllocError> {
-        match form {
-            Form::Plain(g) => self.row_to(from, NONE, owner, g.as_slice(), NO_DEPENDENCY, 0),
-            Form::Linked(link) => self.linked(graph, owner, from, link),
-        }
-    }
-
-    fn feature(
-        &mut self,
-        graph: &Graph,
-        owner: &Package,
-        feature: &Feature,
-    ) -> Result<(), AllocError> {
-        let from = self.feature_item(feature.number);
-        for value in feature.values.iter() {
-            self.value(graph, owner, from, &value.form)?;
-        }
-        Ok(())
+    // The item of the feature of that name, if the package has it.
+    fn item_of(&self, package: &Package<'a>, name: &[u8]) -> Option<u32> {
+        package
+            .feature(name)
+            .map(|number| self.feature_item(number))
     }
 }
 
-// The words of all rows, in order.
-pub fn row_words(heap: Global, graph: &Graph) -> Result<Vec<u32>, AllocError> {
-    let mut listing = Listing {
-        words: Vec::new(heap),
-        packages: graph.count,
-        dependencies: graph.dependencies,
-    };
-    for owner in graph.packages.iter() {
-        for dependency in owner.dependencies.iter() {
-            if let Some(edge) = listing.edge(graph, dependency) {
-                listing.dependency(owner, dependency, edge)?;
+// The number of a lane; 6 stands for no dependency.
+fn lane_word(lane: Option<Lane>) -> u32 {
+    match lane {
+        Some(Lane { kind, to_proc }) => kind as u32 + 3 * u32::from(to_proc),
+        None => 6,
+    }
+}
+
+// The words of a row; 2^32 - 1 stands for no second premise.
+pub fn words_of(row: &Row) -> [u32; 5] {
+    [
+        row.from,
+        row.mate.unwrap_or(u32::MAX),
+        row.to,
+        lane_word(row.lane),
+        u32::from(row.cross),
+    ]
+}
+
+// A row with one premise.
+fn lone(from: u32, to: u32, lane: Option<Lane>, cross: bool) -> Row {
+    Row {
+        from,
+        mate: None,
+        to,
+        lane,
+        cross,
+    }
+}
+
+// The list of rows so far.
+#[derive(Drop)]
+struct Listing<'g, 'a> {
+    graph: &'g Graph<'a>,
+    rows: Vec<Row>,
+}
+
+impl<'g, 'a> Listing<'g, 'a> {
+    fn dependency(
+        &mut self,
+        owner: &Package<'a>,
+        dependency: &Dependency<'a>,
+    ) -> Result<(), AllocError> {
+        let graph = self.graph;
+        let Some(Edge { item, lane, end }) = graph.edge(dependency) else {
+            return Ok(());
+        };
+        if !dependency.optional {
+            self.rows.push(lone(owner.number, item, Some(lane), false))?;
+        }
+        self.rows.push(lone(item, end.number, Some(lane), true))?;
+        let default = dependency.defaults.then_some(&b"default"[..]);
+        let asks = dependency.asks.iter().map(|ask| ask.bytes);
+        self.rows.extend(
+            default
+                .into_iter()
+                .chain(asks)
+                .filter_map(|name| graph.item_of(end, name))
+                .map(|to| lone(item, to, Some(lane), true)),
+        )
+    }
+
+    // The rows of a value that names dependencies.
+    fn linked(&mut self, owner: &Package<'a>, from: u32, link: Link<'a>) -> Result<(), AllocError> {
+        let graph = self.graph;
+        let named = owner
+            .dependencies
+            .iter()
+            .filter(|dependency| dependency.name == link.name);
+        for dependency in named {
+            let Some(Edge { item, lane, end }) = graph.edge(dependency) else {
+                continue;
+            };
+            if link.switches && dependency.optional {
+                self.rows.push(lone(from, item, Some(lane), false))?;
+            }
+            let to = link.feature.and_then(|g| graph.item_of(end, g));
+            self.rows.extend(to.map(|to| Row {
+                from,
+                mate: Some(item),
+                to,
+                lane: Some(lane),
+                cross: true,
+            }))?;
+        }
+        Ok(())
+    }
+
+    fn feature(&mut self, owner: &Package<'a>, feature: &Feature<'a>) -> Result<(), AllocError> {
+        let graph = self.graph;
+        let from = graph.feature_item(feature.number);
+        for value in feature.values.iter() {
+            match value.form {
+                Form::Plain(g) => {
+                    let to = graph.item_of(owner, g);
+                    self.rows.extend(to.map(|to| lone(from, to, None, false)))?;
+                }
+                Form::Linked(link) => self.linked(owner, from, link)?,
             }
         }
-        for feature in owner.features.iter() {
-            listing.feature(graph, owner, feature)?;
-        }
+        Ok(())
     }
-    let Listing { words, .. } = listing;
-    Ok(words)
+
+    // The rows of all that a package owns.
+    fn package(&mut self, owner: &Package<'a>) -> Result<(), AllocError> {
+        owner
+            .dependencies
+            .iter()
+            .try_for_each(|dependency| self.dependency(owner, dependency))?;
+        owner
+            .features
+            .iter()
+            .try_for_each(|feature| self.feature(owner, feature))
+    }
+}
+
+// All rows, in order.
+pub fn list_rows(heap: Global, graph: &Graph<'_>) -> Result<Vec<Row>, AllocError> {
+    let mut listing = Listing {
+        graph,
+        rows: Vec::new(heap),
+    };
+    graph
+        .packages
+        .iter()
+        .try_for_each(|owner| listing.package(owner))?;
+    let Listing { rows, .. } = listing;
+    Ok(rows)
 }

@@ -1,7 +1,9 @@
 // The first reading: from bytes to packages.
+use crate::kinds::RecordKind;
 use crate::opener::fields::Fields;
 use crate::opener::graphs::{Dependency, Feature, Graph, Package};
-use crate::opener::stops::{Place, Stop};
+use crate::opener::stops::{Place, Stop, Why};
+use graph::refusals::Refusal;
 use std::alloc::Global;
 use std::collections::BTreeMap;
 
@@ -11,68 +13,75 @@ const MOST_DEPENDENCIES: u32 = 16_384;
 
 const MOST_FEATURES: u32 = 16_384;
 
+// A record: the number of its kind, the bytes of its fields, and what follows it.
 #[derive(Clone, Copy)]
-enum Kind {
-    Header,
-    Package,
-    Dependency,
-    Feature,
-    End,
+struct Frame<'a> {
+    number: u16,
+    body: &'a [u8],
+    after: &'a [u8],
 }
 
-// The bytes of the record that starts here.
-fn record_bytes<'a>(file: &'a [u8], place: Place) -> Result<&'a [u8], Stop> {
-    let rest = file.get(place.start..).unwrap_or(&[]);
-    let [a, b, c, d, ..] = rest else {
-        return Err(place.refused(1, 0, 0));
-    };
-    let length = u64::from(u32::from_le_bytes([*a, *b, *c, *d]));
-    let whole = usize::try_from(length.saturating_add(4)).unwrap_or(usize::MAX);
-    let Some(bytes) = rest.get(0..whole) else {
-        return Err(place.refused(1, 0, 0));
-    };
-    if length < 2 {
-        return Err(place.refused(3, 0, 0));
-    }
-    Ok(bytes)
+// The record that starts here.
+fn first_record<'a>(bytes: &'a [u8], place: Place) -> Result<Frame<'a>, Refusal> {
+    let cut = place.refusal(Why::Cut, 0, 0);
+    let (length, bytes) = bytes.split_first_chunk::<4>().ok_or(cut)?;
+    let length = u32::from_le_bytes(*length) as usize;
+    let (record, after) = bytes.split_at_checked(length).ok_or(cut)?;
+    let (number, body) = record
+        .split_first_chunk::<2>()
+        .ok_or(place.refusal(Why::Ragged, 0, 0))?;
+    Ok(Frame {
+        number: u16::from_le_bytes(*number),
+        body,
+        after,
+    })
 }
 
-// The kind of a record, which must be one that may stand there.
-fn kind_of(bytes: &[u8], place: Place, graph: &Graph) -> Result<Kind, Stop> {
-    let code = match bytes {
-        [_, _, _, _, low, high, ..] => u16::from_le_bytes([*low, *high]),
-        _ => 0,
-    };
-    let owned = !graph.packages.is_empty();
-    match code {
-        1 if place.record == 0 => Ok(Kind::Header),
-        2 if place.record > 0 => Ok(Kind::Package),
-        3 if owned => Ok(Kind::Dependency),
-        4 if owned => Ok(Kind::Feature),
-        5 if place.record > 0 => Ok(Kind::End),
-        _ => Err(place.refused(2, 0, 0)),
+// The kind of a record: the first is a header, and no other is.
+fn kind_of(frame: Frame<'_>, place: Place) -> Result<RecordKind, Refusal> {
+    let stray = place.refusal(Why::Stray, 0, 0);
+    let kind = RecordKind::try_from(frame.number).map_err(|_| stray)?;
+    if (kind == RecordKind::Header) == (place.record == 0) {
+        Ok(kind)
+    } else {
+        Err(stray)
     }
 }
 
-// There must be fewer than the limit so far.
-fn one_more(place: Place, so_far: u32, limit: u32) -> Result<u32, Stop> {
-    if so_far >= limit {
-        return Err(place.refused(8, 0, 0));
+// The number of one more, which must be below the limit.
+fn one_more(place: Place, count: &mut u32, limit: u32) -> Result<u32, Refusal> {
+    let number = *count;
+    if number >= limit {
+        return Err(place.refusal(Why::Many, 0, 0));
     }
-    Ok(so_far.saturating_add(1))
+    *count = number.saturating_add(1);
+    Ok(number)
 }
 
-fn read_header(fields: &mut Fields<'_>) -> Result<(), Stop> {
-    let at = fields.at;
-    if fields.word()? != 1 {
-        return Err(fields.place.refused(4, at, 0));
-    }
-    Ok(())
+// The last package, which a dependency or feature belongs to.
+fn last_package<'g, 'a>(
+    packages: &'g mut Vec<Package<'a>>,
+    place: Place,
+) -> Result<&'g mut Package<'a>, Refusal> {
+    packages.last_mut().ok_or(place.refusal(Why::Stray, 0, 0))
 }
 
-fn read_package(heap: Global, fields: &mut Fields<'_>, number: u32) -> Result<Package, Stop> {
-    let proc_mark = fields.up_to(1)? == 1;
-    let _ = fields.name(heap)?;
+fn read_header(fields: &mut Fields<'_>) -> Result<(), Refusal> {
+    let mark = fields.place.refusal(Why::Mark, fields.at, 0);
+    if fields.word()? == 1 {
+        Ok(())
+    } else {
+        Err(mark)
+    }
+}
+
+fn read_package<'a>(
+    heap: Global,
+    fields: &mut Fields<'a>,
+    number: u32,
+) -> Result<Package<'a>, Refusal> {
+    let proc_mark = fields.switch()?;
+    fields.name()?;
     Ok(Package {
         number,
         proc_mark,
@@ -82,18 +91,22 @@ fn read_package(heap: Global, fields: &mut Fields<'_>, number: u32) -> Result<Pa
     })
 }
 
-fn read_dependency(heap: Global, fields: &mut Fields<'_>, number: u32) -> Result<Dependency, Stop> {
+fn read_dependency<'a>(
+    heap: Global,
+    fields: &mut Fields<'a>,
+    number: u32,
+) -> Result<Dependency<'a>, Stop> {
+    let place = fields.place;
     let end = fields.word()?;
-    let kind = fields.up_to(2)?;
-    let optional = fields.up_to(1)? == 1;
-    let defaults = fields.up_to(1)? == 1;
-    let name = fields.name(heap)?.bytes;
-    let mut asks = Vec::new(heap);
-    for _ in 0..fields.byte()? {
-        asks.push(fields.name(heap)?)?;
-    }
+    let kind = fields.edge_kind()?;
+    let optional = fields.switch()?;
+    let defaults = fields.switch()?;
+    let name = fields.name()?.bytes;
+    let asks = (0..fields.byte()?)
+        .map(|_| fields.name().map_err(Stop::Refused))
+        .try_collect(heap)?;
     Ok(Dependency {
-        place: fields.place,
+        place,
         number,
         end,
         kind,
@@ -104,88 +117,85 @@ fn read_dependency(heap: Global, fields: &mut Fields<'_>, number: u32) -> Result
     })
 }
 
-fn read_feature(
+fn read_feature<'a>(
     heap: Global,
-    fields: &mut Fields<'_>,
-    owner: &mut Package,
+    fields: &mut Fields<'a>,
+    owner: &mut Package<'a>,
     number: u32,
 ) -> Result<(), Stop> {
-    let name = fields.name(heap)?;
-    if owner.numbers.insert(name.bytes, number)?.is_some() {
-        return Err(fields.place.refused(6, name.at, 0));
+    let place = fields.place;
+    let name = fields.name()?;
+    let key = Vec::from_slice(heap, name.bytes)?;
+    if owner.numbers.insert(key, number)?.is_some() {
+        return Err(place.refusal(Why::Twice, name.at, 0).into());
     }
-    let mut values = Vec::new(heap);
-    for _ in 0..fields.byte()? {
-        values.push(fields.value(heap)?)?;
-    }
+    let values = (0..fields.byte()?)
+        .map(|_| fields.value(heap))
+        .try_collect(heap)?;
     owner.features.push(Feature {
-        place: fields.place,
+        place,
         number,
         values,
     })?;
     Ok(())
 }
 
-fn read_record(
+fn read_record<'a>(
     heap: Global,
-    graph: &mut Graph,
-    kind: Kind,
-    fields: &mut Fields<'_>,
+    graph: &mut Graph<'a>,
+    kind: RecordKind,
+    fields: &mut Fields<'a>,
 ) -> Result<(), Stop> {
     let place = fields.place;
     match kind {
-        Kind::Header => read_header(fields)?,
-        Kind::Package => {
-            let count = one_more(place, graph.count, MOST_PACKAGES)?;
-            graph
-                .packages
-                .push(read_package(heap, fields, graph.count)?)?;
-            graph.count = count;
+        RecordKind::Header => read_header(fields)?,
+        RecordKind::Package => {
+            let number = one_more(place, &mut graph.count, MOST_PACKAGES)?;
+            graph.packages.push(read_package(heap, fields, number)?)?;
         }
-        Kind::Dependency => {
-            let count = one_more(place, graph.dependencies, MOST_DEPENDENCIES)?;
-            let dependency = read_dependency(heap, fields, graph.dependencies)?;
-            if let Some(owner) = graph.packages.last_mut() {
-                owner.dependencies.push(dependency)?;
-            }
-            graph.dependencies = count;
+        RecordKind::Dependency => {
+            let number = one_more(place, &mut graph.dependencies, MOST_DEPENDENCIES)?;
+            let owner = last_package(&mut graph.packages, place)?;
+            owner
+                .dependencies
+                .push(read_dependency(heap, fields, number)?)?;
         }
-        Kind::Feature => {
-            let count = one_more(place, graph.features, MOST_FEATURES)?;
-            let number = graph.features;
-            if let Some(owner) = graph.packages.last_mut() {
-                read_feature(heap, fields, owner, number)?;
-            }
-            graph.features = count;
+        RecordKind::Feature => {
+            let number = one_more(place, &mut graph.features, MOST_FEATURES)?;
+            let owner = last_package(&mut graph.packages, place)?;
+            read_feature(heap, fields, owner, number)?;
         }
-        Kind::End => {}
+        RecordKind::End => {}
     }
-    fields.finish()
+    fields.finish()?;
+    Ok(())
 }
 
 // The graph of a file, and how many bytes it takes.
-pub fn read_graph(heap: Global, file: &[u8]) -> Result<(Graph, usize), Stop> {
+pub fn read_graph<'a>(heap: Global, file: &'a [u8]) -> Result<(Graph<'a>, usize), Stop> {
     let mut graph = Graph {
         packages: Vec::new(heap),
         count: 0,
         dependencies: 0,
         features: 0,
     };
-    let mut start = 0;
-    for record in 0..file.len().saturating_add(1) {
+    let mut rest = file;
+    // a record takes bytes, so there are no more records than bytes; an iterator would hand out record, start and frame
+    for record in 0..=file.len() {
+        let start = file.len().saturating_sub(rest.len());
         let place = Place { record, start };
-        let bytes = record_bytes(file, place)?;
-        let kind = kind_of(bytes, place, &graph)?;
+        let frame = first_record(rest, place)?;
+        let kind = kind_of(frame, place)?;
         let mut fields = Fields {
             place,
-            bytes,
+            rest: frame.body,
             at: 6,
         };
         read_record(heap, &mut graph, kind, &mut fields)?;
-        start = start.saturating_add(bytes.len());
-        if matches!(kind, Kind::End) {
-            return Ok((graph, start));
+        rest = frame.after;
+        if kind == RecordKind::End {
+            return Ok((graph, file.len().saturating_sub(rest.len())));
         }
     }
-    Err(Place { record: 0, start }.refused(1, 0, 0))
+    Err(Place::NONE.refusal(Why::Cut, 0, 0).into())
 }

@@ -1,109 +1,90 @@
 // The second reading: whatever a graph refers to must be there.
 use crate::opener::graphs::{Dependency, Feature, Form, Graph, Link, Package};
-use crate::opener::stops::{Place, Stop};
+use crate::opener::stops::Why;
+use graph::refusals::Refusal;
 
-// Where something unknown is referred to.
-#[derive(Clone, Copy)]
-struct Unknown {
-    place: Place,
-    field: usize,
+// The first dependency with no end.
+fn lost_end(graph: &Graph<'_>) -> Option<Refusal> {
+    graph
+        .packages
+        .iter()
+        .flat_map(|package| package.dependencies.iter())
+        .find(|dependency| graph.end(dependency).is_none())
+        .map(|dependency| dependency.place.refusal(Why::Unknown, 6, 0))
 }
 
-fn ends(graph: &Graph) -> Result<(), Stop> {
-    for package in graph.packages.iter() {
-        for dependency in package.dependencies.iter() {
-            if graph.end(dependency).is_none() {
-                return Err(dependency.place.refused(7, 6, 0));
-            }
-        }
-    }
-    Ok(())
-}
-
-fn unknown_ask(graph: &Graph, dependency: &Dependency) -> Option<Unknown> {
+// The first ask for a feature that the end does not have.
+fn unknown_ask(graph: &Graph<'_>, dependency: &Dependency<'_>) -> Option<Refusal> {
     let end = graph.end(dependency)?;
-    for ask in dependency.asks.iter() {
-        if end.feature(ask.bytes.as_slice()).is_none() {
-            return Some(Unknown {
-                place: dependency.place,
-                field: ask.at,
-            });
-        }
-    }
-    None
+    let ask = dependency
+        .asks
+        .iter()
+        .find(|ask| end.feature(ask.bytes).is_none())?;
+    Some(dependency.place.refusal(Why::Unknown, ask.at, 0))
 }
 
 // Whether the end of a dependency has the feature that a link names, if it names one.
-fn end_has(graph: &Graph, dependency: &Dependency, link: &Link) -> bool {
-    match (graph.end(dependency), &link.feature) {
-        (Some(end), Some(g)) => end.feature(g.as_slice()).is_some(),
+fn end_has(graph: &Graph<'_>, dependency: &Dependency<'_>, link: Link<'_>) -> bool {
+    match (graph.end(dependency), link.feature) {
+        (Some(end), Some(g)) => end.feature(g).is_some(),
         _ => true,
     }
 }
 
-// Whether there are dependencies of that name, each with the feature in its end.
-fn leads_on(graph: &Graph, owner: &Package, link: &Link) -> bool {
-    let mut found = false;
-    for dependency in owner.dependencies.iter() {
-        if dependency.name.as_slice() == link.name.as_slice() {
-            found = true;
-            if !end_has(graph, dependency, link) {
-                return false;
-            }
+// A package in its graph.
+#[derive(Clone, Copy)]
+struct Owner<'g, 'a> {
+    graph: &'g Graph<'a>,
+    package: &'g Package<'a>,
+}
+
+impl<'g, 'a> Owner<'g, 'a> {
+    // Whether there are dependencies of that name, each with the feature in its end.
+    fn leads_on(self, link: Link<'_>) -> bool {
+        let mut named = self
+            .package
+            .dependencies
+            .iter()
+            .filter(|dependency| dependency.name == link.name)
+            .peekable();
+        named.peek().is_some() && named.all(|dependency| end_has(self.graph, dependency, link))
+    }
+
+    fn knows(self, form: Form<'_>) -> bool {
+        match form {
+            Form::Plain(g) => self.package.feature(g).is_some(),
+            Form::Linked(link) => self.leads_on(link),
         }
     }
-    found
-}
 
-fn is_known(graph: &Graph, owner: &Package, form: &Form) -> bool {
-    match form {
-        Form::Plain(g) => owner.feature(g.as_slice()).is_some(),
-        Form::Linked(link) => leads_on(graph, owner, link),
+    // The first value that refers to nothing.
+    fn unknown_value(self, feature: &Feature<'_>) -> Option<Refusal> {
+        let value = feature.values.iter().find(|value| !self.knows(value.form))?;
+        Some(feature.place.refusal(Why::Unknown, value.at, 0))
     }
-}
 
-fn unknown_value(graph: &Graph, owner: &Package, feature: &Feature) -> Option<Unknown> {
-    for value in feature.values.iter() {
-        if !is_known(graph, owner, &value.form) {
-            return Some(Unknown {
-                place: feature.place,
-                field: value.at,
-            });
-        }
-    }
-    None
-}
-
-// The one in the earlier record.
-fn earlier(a: Option<Unknown>, b: Option<Unknown>) -> Option<Unknown> {
-    match (a, b) {
-        (Some(x), Some(y)) => Some(if x.place.record < y.place.record {
-            x
-        } else {
-            y
-        }),
-        (Some(x), None) => Some(x),
-        (None, y) => y,
+    // The first in the records of the package.
+    fn unknown(self) -> Option<Refusal> {
+        let asks = self
+            .package
+            .dependencies
+            .iter()
+            .filter_map(|dependency| unknown_ask(self.graph, dependency));
+        let values = self
+            .package
+            .features
+            .iter()
+            .filter_map(|feature| self.unknown_value(feature));
+        asks.chain(values).min_by_key(|refusal| refusal.record)
     }
 }
 
-fn unknown_of(graph: &Graph, owner: &Package) -> Option<Unknown> {
-    let mut first = None;
-    for dependency in owner.dependencies.iter() {
-        first = earlier(first, unknown_ask(graph, dependency));
-    }
-    for feature in owner.features.iter() {
-        first = earlier(first, unknown_value(graph, owner, feature));
-    }
-    first
-}
-
-pub fn look_up(graph: &Graph) -> Result<(), Stop> {
-    ends(graph)?;
-    for package in graph.packages.iter() {
-        if let Some(unknown) = unknown_of(graph, package) {
-            return Err(unknown.place.refused(7, unknown.field, 0));
-        }
-    }
-    Ok(())
+pub fn look_up(graph: &Graph<'_>) -> Result<(), Refusal> {
+    let unknown = lost_end(graph).or_else(|| {
+        graph
+            .packages
+            .iter()
+            .find_map(|package| Owner { graph, package }.unknown())
+    });
+    unknown.map_or(Ok(()), Err)
 }

@@ -1,4 +1,4 @@
-// Why the second opener stops.
+// Why the second opener stops. The program `demo` has the like, and no crate below both may speak of memory.
 use graph::refusals::Refusal;
 use std::alloc::{AllocError, AllocFailed};
 
@@ -8,6 +8,22 @@ pub enum Stop {
     Refused(Refusal),
     // the program itself has no memory left
     Memory(AllocError),
+}
+
+impl Stop {
+    // The refusal, if it is one.
+    pub fn refusal(self) -> Result<Refusal, AllocError> {
+        match self {
+            Stop::Refused(refusal) => Ok(refusal),
+            Stop::Memory(e) => Err(e),
+        }
+    }
+}
+
+impl From<Refusal> for Stop {
+    fn from(refusal: Refusal) -> Stop {
+        Stop::Refused(refusal)
+    }
 }
 
 impl From<AllocError> for Stop {
@@ -22,6 +38,20 @@ impl<T: Drop> From<AllocFailed<T>> for Stop {
     }
 }
 
+// Why a file is refused, by the numbers of the table of refusals.
+#[derive(Clone, Copy)]
+pub enum Why {
+    Cut = 1,
+    Stray = 2,
+    Ragged = 3,
+    Mark = 4,
+    Name = 5,
+    Twice = 6,
+    Unknown = 7,
+    Many = 8,
+    Memory = 9,
+}
+
 // The number of a record and its start in the file.
 #[derive(Clone, Copy)]
 pub struct Place {
@@ -30,14 +60,21 @@ pub struct Place {
 }
 
 impl Place {
+    // that of a refusal which is about no record
+    pub const NONE: Place = Place {
+        record: 0,
+        start: 0,
+    };
+
     // A refusal of this record.
-    pub fn refused(self, number: u32, field: usize, prefix: usize) -> Stop {
-        Stop::Refused(Refusal {
-            number,
-            record: self.record,
-            start: self.start,
+    pub fn refusal(self, why: Why, field: usize, prefix: usize) -> Refusal {
+        let Place { record, start } = self;
+        Refusal {
+            number: why as u32,
+            record,
+            start,
             field,
             prefix,
-        })
+        }
     }
 }

@@ -1,20 +1,15 @@
-use Rattle.std.proofs.Common.{◌+◌, ◌*◌, ◌%◌, drop, sym, ap, ◌∙◌, arith}
-use Rattle.std.proofs.lemmas.List.{at_drop_more, at_drop_all}
-use Rattle.graph.specs.Keys.{hash_from}
+use Rattle.std.proofs.Common.{◌≡◌, ◌%◌, ◌<◌, rules, arith}
+use Rattle.std.proofs.lemmas.Fn.{serves_by}
+use Rattle.std.proofs.lemmas.List.Folds.{fold_along}
+use Rattle.graph.specs.Keys.{hash_step, bucket_of}
 use Rattle.graph.proofs.lookup.bucket.Goals as goal
 
-pub loop-b-preserved : goal.loop-b-preserved
-loop-b-preserved c =
-    let t = c.args.name.now in (
-      omega arith,
-      ap (λ b. hash_from ((c.loop-b.h * 263 + b) % 32749) (drop (c.loop-b.b-index + 1) t)) c.from.ensures
-          ∙ sym (at_drop_more (hash_from c.loop-b.h) t c.loop-b.b-index 0 c.loop-b-test.true) ∙ c.loop-b.invariant.1,
-    )
+-- each step gives a number of a bucket
+pub fold-requires-clause-callable : goal.fold-requires-clause-callable
+fold-requires-clause-callable c = serves_by _ (λ xs p. p.1 < 32749) (λ xs q x v j r. let e : v.1 ≡ hash_step q.1 x.now = search rules in omega (arith, e)) _ _ _ _ (omega arith) (λ xs t q x u y k j. search rules)
 
-pub returns : goal.returns
-returns c =
-    let t = c.args.name.now in
-    record {
-      value = sym (at_drop_all (hash_from c.loop-b.h) t c.loop-b.b-index c.loop-b-test.false) ∙ c.loop-b.invariant.1;
-      below = c.loop-b.invariant.0;
-    }
+pub returns-clause-below : goal.returns-clause-below
+returns-clause-below c =
+    let e : c.fold.result ≡ bucket_of c.args.key.owner c.args.key.name.now = search rules in
+    let below : bucket_of c.args.key.owner c.args.key.name.now < 32749 = fold_along hash_step hash_step (λ h k. h < 32749) (λ h k b l. omega arith) (c.args.key.owner % 32749) (c.args.key.owner % 32749) c.args.key.name.now (omega arith) in
+    omega (arith, e, below)

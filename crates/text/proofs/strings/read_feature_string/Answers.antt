@@ -1,26 +1,21 @@
-use Rattle.std.proofs.Common.{◌≡◌, get_or, Some, None, Err, ◌∙◌}
+use Rattle.std.proofs.Common.{◌≡◌, get_or, Err, ◌∙◌, arith, rules}
+use Rattle.std.proofs.lemmas.Grind.{common_steps}
 use Rattle.text.specs.declared.faults.StringFault.TheVariants.{NoForm}
-use Rattle.text.specs.Readers.{step, finish, read_form}
-use Rattle.text.proofs.Machines.{loop-more, loop-all}
+use Rattle.text.specs.Views.{mapped, form}
 use Rattle.text.proofs.FormRuns.{room-more}
 use Rattle.text.proofs.FormLaws.{form-law}
 use Rattle.text.proofs.strings.read_feature_string.Goals as goal
 
-pub returns-in_default : goal.returns-in_default
-returns-in_default c =
-    let t = c.args.text.now in
-    let e : Err (NoForm c.loop-at.at) ≡ read_form t = loop-more step finish NoForm (read_form t) t c.loop-at.state c.loop-at.at None c.loop-at-test.true (cc) c.loop-at.invariant.1 in
-    record { value = e; law = form-law t _ e }
+pub returns-in_err-state-clause-law : goal.returns-in_err-state-clause-law
+returns-in_err-state-clause-law c =
+    let told : mapped form c.from_residual.result ≡ Err (NoForm c.loop-at.at) = search rules in
+    form-law c.args.text.now _ (told ∙ grind (arith, common_steps))
 
 pub loop-at-preserved : goal.loop-at-preserved
-loop-at-preserved c =
-    let t = c.args.text.now in (
-      room-more c.loop-at.state c.in-Some.after (get_or t c.loop-at.at 0) c.loop-at.at (cc) c.loop-at.invariant.0,
-      loop-more step finish NoForm (read_form t) t c.loop-at.state c.loop-at.at (Some c.in-Some.after) c.loop-at-test.true (cc) c.loop-at.invariant.1,
-    )
+loop-at-preserved c = (
+  room-more c.loop-at.state c.in_ok-state.state (get_or c.args.text.now c.loop-at.at 0) c.loop-at.at (grind (arith, common_steps)) c.loop-at.invariant.0,
+  grind (arith, common_steps),
+)
 
-pub returns : goal.returns
-returns c =
-    let t = c.args.text.now in
-    let e = c.ended.ensures ∙ loop-all step finish NoForm (read_form t) t c.loop-at.state c.loop-at.at c.loop-at-test.false c.loop-at.invariant.1 in
-    record { value = e; law = form-law t _ e }
+pub returns-clause-law : goal.returns-clause-law
+returns-clause-law c = form-law c.args.text.now _ (grind (arith, common_steps))

@@ -1,15 +1,18 @@
-use Rattle.std.proofs.Common.{◌-◌, get_or, sym, refl, ◌∙◌, arith}
-use Rattle.graph.specs.Keys.{entry_at}
-use Rattle.graph.proofs.Links.{search-starts, search-goes}
+use Rattle.std.proofs.Common.{sym, ◌∙◌}
+use Rattle.graph.proofs.Links.{search-starts, search-goes, search-nears}
 use Rattle.graph.proofs.index.Index.find.Goals as goal
 
-pub loop-upto-init : goal.loop-upto-init
-loop-upto-init c =
+pub loop-at-init : goal.loop-at-init
+loop-at-init c =
     let s = c.args.self.now in
-    search-starts s.file.now s.entries s.heads s.count c.requires.linked c.args.owner c.args.name.now c.bucket.result (get_or s.heads c.bucket.result 0) c.bucket.ensures.value refl
+    search-starts s.lists.entries s.lists.heads s.lists.count s.linked c.args.key.owner c.args.key.name.now c.bucket.result c.bucket.ensures.value
 
-pub loop-upto-preserved : goal.loop-upto-preserved
-loop-upto-preserved c =
+pub loop-at-preserved : goal.loop-at-preserved
+loop-at-preserved c =
     let s = c.args.self.now in
-    let upto = c.loop-upto.upto in
-    search-goes s.file.now s.entries s.heads s.count c.requires.linked c.args.owner c.args.name.now upto (upto - 1) (entry_at s.entries (upto - 1)).next refl (omega arith) c.loop-upto.invariant.0 refl c.loop-upto.invariant.1.0 c.loop-upto.invariant.1.1 (sym c.is_at.ensures ∙ c.if-is_at.false)
+    search-goes s.lists.entries s.lists.heads s.lists.count s.linked c.args.key.owner c.args.key.name.now c.loop-at.at c.in-Some.k c.in-Some.is c.loop-at.invariant (sym c.is_at.ensures ∙ c.if-is_at.false)
+
+pub loop-at-smaller : goal.loop-at-smaller
+loop-at-smaller c =
+    let s = c.args.self.now in
+    search-nears s.lists.entries s.lists.heads s.lists.count s.linked c.args.key.owner c.args.key.name.now c.loop-at.at c.in-Some.k c.in-Some.is c.loop-at.invariant

@@ -1,14 +1,9 @@
-use Rattle.std.proofs.Common.{◌≡◌, ◌-◌, ◌<◌, ◌≤◌}
-use Rattle.graph.specs.Keys.{bucket_of, bucket_at}
-use Rattle.graph.proofs.Links.{Absent}
+use Rattle.graph.specs.Keys.{past}
+use Rattle.graph.proofs.Links.{Searching}
 use Rattle.graph.proofs.index.Index.find.Given as goal
 
--- the search is in its bucket, and has passed no feature that is looked for
-abbrev pub invariant-loop-upto : goal.invariant-loop-upto
-invariant-loop-upto l =
-    (l.upto ≤ l.self.count)
-    × ((0 < l.upto → bucket_at l.self.file.now l.self.entries (l.upto - 1) ≡ bucket_of l.owner l.name)
-    × Absent l.self.file.now l.self.entries l.owner l.name l.upto l.self.count)
+abbrev pub invariant-loop-at : goal.invariant-loop-at
+invariant-loop-at l = Searching l.self.lists.entries l.self.lists.count l.key.owner l.key.name.now l.at
 
-abbrev pub decreases-loop-upto : goal.decreases-loop-upto
-decreases-loop-upto l = l.upto
+abbrev pub decreases-loop-at : goal.decreases-loop-at
+decreases-loop-at l = past l.at

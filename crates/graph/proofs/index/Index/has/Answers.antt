@@ -5,5 +5,5 @@ use Rattle.graph.proofs.index.Index.has.Goals as goal
 pub returns : goal.returns
 returns c =
     let s = c.args.self.now in
-    let room : s.count ≤ length s.entries = omega (arith, c.requires.few, c.requires.linked.full) in
-    c.is_some.ensures ∙ finds-has s.file.now s.entries s.count c.args.owner c.args.name.now c.find.result room c.find.ensures
+    let room : s.lists.count ≤ length s.lists.entries = omega (arith, c.args.self.now.few, c.args.self.now.linked.full) in
+    c.is_some.ensures ∙ finds-has s.lists.entries s.lists.count c.args.key.owner c.args.key.name.now c.find.result room c.find.ensures

@@ -1,8 +1,6 @@
 use Rattle.std.proofs.Common.{refl}
-use Rattle.std.proofs.lemmas.List.{length-replicate}
-use Rattle.graph.specs.Keys.{blank}
-use Rattle.graph.proofs.Links.{linked-none, zeros}
+use Rattle.graph.proofs.Links.{linked-none, nones}
 use Rattle.graph.proofs.index.Index.new.Goals as goal
 
-pub returns : goal.returns
-returns c = (refl, refl, linked-none _ _ _ (length-replicate 16384 blank) (zeros 32749))
+pub invariant_of-result-clause-linked : goal.invariant_of-result-clause-linked
+invariant_of-result-clause-linked c = linked-none 16384 _ _ refl (nones 32749)

@@ -6,12 +6,9 @@ use Rattle.rulebook.specs.GraphTable.{graph_table}
 use Rattle.rulebook.proofs.GraphTables.{opened-table}
 use Rattle.rulebook.proofs.graph_book.GraphBook.new.Goals as goal
 
-pub returns : goal.returns
-returns g c =
+pub returns-clause-rules : goal.returns-clause-rules
+returns-clause-rules g c file before graph opens e =
     let answers : Answers = g.P.Policy.answers c.args.policy.now in
     let ws : List ℕ = g.W.Words.list c.args.words in
     let same : graph_table (told_by c.by.result.leads) ws ≡ graph_table answers ws = ap (λ (a : Answers). graph_table a ws) (λ i lane side. c.by.ensures lane side i) in
-    record {
-      table = same;
-      rules = λ file before graph opens e. subst (λ (t : Table). TableOf answers graph t) (sym same) (opened-table file before graph opens answers ws e);
-    }
+    subst (λ (t : Table). TableOf answers graph t) (sym same) (opened-table file before graph opens answers ws e)

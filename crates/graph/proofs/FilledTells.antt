@@ -1,0 +1,85 @@
+-- What a filled directory tells of the graph of its file.
+use Rattle.std.proofs.Common.{◌≡◌, ℕ, ◌+◌, ◌-◌, ◌<◌, ◌≤◌, List, Option, length, get_or, take, drop, sym, ap, ◌∙◌, subst, arith}
+use Rattle.std.proofs.lemmas.List.{get_or-take, get_or-drop, length-take-le, length-drop}
+use Rattle.std.proofs.Math.Logic.{∥∥₁_elim}
+use Rattle.std.proofs.Props.{props}
+use Rattle.records.specs.Graphs.{dependency, feature, Graph}
+use Rattle.graph.specs.declared.filled.Filled.{Filled}
+use Rattle.graph.specs.declared.tables.Directory.{Directory}
+use Rattle.graph.specs.Directory.{Tells, no_part, no_dependency, no_feature, no_placed}
+use Rattle.graph.specs.Laying.{its, ReadsAs, PlacedAs}
+use Rattle.graph.specs.Law.{dependency_count, feature_count}
+use Rattle.graph.specs.Places.{feat, dependencies_of, features_of, number, dependencies_before, features_before}
+use Rattle.graph.specs.Keys.{Finds}
+use Rattle.graph.specs.Rules.{on_some, place_of}
+use Rattle.graph.specs.Second.{placed}
+use Rattle.graph.proofs.FeaturePlaces.{finds-item}
+use Rattle.graph.proofs.PartsAgain.{stands-reads}
+use Rattle.graph.proofs.Sets.{option-set}
+
+-- elements of a part of a table
+pub in-window : (xs : List ℕ) (from to k : ℕ) → k < to - from → get_or (take (to - from) (drop from xs)) k 0 ≡ get_or xs (from + k) 0
+in-window xs from to k l = get_or-take (to - from) (drop from xs) k 0 l ∙ get_or-drop from xs k 0
+
+pub window-length : (xs : List ℕ) (from to : ℕ) → from ≤ to → to ≤ length xs → length (take (to - from) (drop from xs)) ≡ to - from
+window-length xs from to l m = length-take-le (to - from) (drop from xs) (omega (arith, length-drop from xs))
+
+module _ (x : Filled) where
+  abbrev dir : Directory
+  dir = x.directory.now
+
+  abbrev graph : Graph
+  graph = its x
+
+  -- a fact with at most one proof, from what the tables tell
+  from-tables : {P : Type 0} → IsProp P → (Tells dir graph → P) → P
+  from-tables one f = ∥∥₁_elim x.told one f
+
+  pub packages-told : dir.counts.packages ≡ length graph
+  packages-told = from-tables (hlevel props) (λ t. ap (λ c. c.packages) t.counted)
+
+  pub dependencies-told : dir.counts.dependencies ≡ dependency_count graph
+  dependencies-told = from-tables (hlevel props) (λ t. ap (λ c. c.dependencies) t.counted)
+
+  pub features-told : dir.counts.features ≡ feature_count graph
+  features-told = from-tables (hlevel props) (λ t. ap (λ c. c.features) t.counted)
+
+  pub few-packages : length graph ≤ 4096
+  few-packages = from-tables (hlevel props) (λ t. t.says.lawful.few_packages)
+
+  pub few-dependencies : dependency_count graph ≤ 16384
+  few-dependencies = from-tables (hlevel props) (λ t. t.says.lawful.few_dependencies)
+
+  pub few-features : feature_count graph ≤ 16384
+  few-features = from-tables (hlevel props) (λ t. t.says.lawful.few_features)
+
+  pub dependency-read : (p k : ℕ) → k < length (dependencies_of graph p) → ReadsAs x (get_or dir.dependencies (dependencies_before graph p + k) 0) (dependency (get_or (dependencies_of graph p) k no_dependency))
+  dependency-read p k l = from-tables (option-set _ _) (λ t. stands-reads _ _ _ (t.depending p k l))
+
+  pub feature-read : (p k : ℕ) → k < length (features_of graph p) → ReadsAs x (get_or dir.features (features_before graph p + k) 0) (feature (get_or (features_of graph p) k no_feature))
+  feature-read p k l = from-tables (option-set _ _) (λ t. stands-reads _ _ _ (t.featuring p k l))
+
+  pub part-placed : (j : ℕ) → j < length (placed graph) → PlacedAs x (get_or dir.parts j no_part) (get_or (placed graph) j no_placed)
+  part-placed j l =
+      let e = from-tables (hlevel props) (λ t. ap (λ y. y.start) (t.parted j l).1) in (
+        e,
+        from-tables (hlevel props) (λ t. ap (λ y. y.owner) (t.parted j l).1),
+        from-tables (option-set _ _) (λ t. stands-reads _ _ _ (t.parted j l).0),
+      )
+
+  -- the starts of the dependencies, and of the features, of a package
+  pub dependency-window : (p from to : ℕ) → from ≡ dependencies_before graph p → to ≡ from + length (dependencies_of graph p) → (k : ℕ) → k < length (dependencies_of graph p) → ReadsAs x (get_or (take (to - from) (drop from dir.dependencies)) k 0) (dependency (get_or (dependencies_of graph p) k no_dependency))
+  dependency-window p from to f t k l =
+      let e = in-window dir.dependencies from to k (omega arith) ∙ ap (λ n. get_or dir.dependencies (n + k) 0) f in
+      subst (λ s. ReadsAs x s (dependency (get_or (dependencies_of graph p) k no_dependency))) (sym e) (dependency-read p k l)
+
+  pub feature-window : (p from to : ℕ) → from ≡ features_before graph p → to ≡ from + length (features_of graph p) → (k : ℕ) → k < length (features_of graph p) → ReadsAs x (get_or (take (to - from) (drop from dir.features)) k 0) (feature (get_or (features_of graph p) k no_feature))
+  feature-window p from to f t k l =
+      let e = in-window dir.features from to k (omega arith) ∙ ap (λ n. get_or dir.features (n + k) 0) f in
+      subst (λ s. ReadsAs x s (feature (get_or (features_of graph p) k no_feature))) (sym e) (feature-read p k l)
+
+  -- what a search in the index says of the features of a package
+  pub finds-feature : (owner : ℕ) (name : List ℕ) (o : Option ℕ) → Finds dir.index.lists.entries dir.index.lists.count owner name o → on_some (λ k. (length graph + dependency_count graph) + k) o ≡ on_some (λ j. number graph (feat owner j)) (place_of (features_of graph owner) name)
+  finds-feature owner name o f = from-tables (hlevel props) (λ t.
+      let room : dir.index.lists.count ≤ length dir.index.lists.entries = omega (arith, dir.index.few, dir.index.linked.full) in
+      finds-item dir.index.lists.entries dir.index.lists.count graph owner name o room t.keyed t.says.lawful.packages f)

@@ -1,0 +1,11 @@
+use Rattle.std.proofs.Common.{sym, ◌∙◌, arith}
+use Rattle.std.proofs.lemmas.Bool.{le-ltb}
+use Rattle.graph.specs.Laying.{its}
+use Rattle.graph.proofs.Befores.{proc-beyond}
+use Rattle.graph.proofs.FilledTells.{packages-told}
+use Rattle.graph.proofs.filled.Filled.is_procedural.Goals as goal
+
+pub returns-else-p-self : goal.returns-else-p-self
+returns-else-p-self c =
+    let x = c.args.self.now in
+    le-ltb c.args.p x.directory.now.counts.packages c.if-p-self.false ∙ sym (proc-beyond (its x) c.args.p (omega (arith, packages-told x, c.if-p-self.false)))

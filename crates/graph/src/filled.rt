@@ -1,0 +1,11 @@
+// A directory whose tables are filled: they tell the graph of its file.
+ghost use Rattle.graph.specs.Directory.{Tells};
+ghost use Rattle.graph.specs.Parts.{graph_of};
+
+use crate::tables::Directory;
+
+#[derive(Clone, Copy)]
+pub(crate) struct Filled<'a> {
+    pub directory: &'a Directory<'a>,
+    ghost told: { ∥ Tells directory.now (graph_of directory.now.index.file.now) ∥₁ },
+}

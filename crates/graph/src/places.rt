@@ -1,0 +1,113 @@
+// Where the records of a graph stand, and what they are.
+ghost use Rattle.std.specs.Prelude.{◌≡◌, ℕ, ◌+◌, ◌-◌, ◌<◌, ◌≤◌, length, take, drop, slice_index, slice_index_or, Some};
+ghost use Rattle.records.specs.Graphs.{Part, dependency, feature};
+ghost use Rattle.graph.specs.Directory.{no_dependency, no_feature, no_part, no_placed};
+ghost use Rattle.graph.specs.Laying.{its, ReadsAs, PlacedAs};
+ghost use Rattle.graph.specs.Places.{dep, feat, dependencies_of, features_of, proc_of, number, dependencies_before, features_before};
+ghost use Rattle.graph.specs.Rules.{on_some, place_of};
+ghost use Rattle.graph.specs.Second.{has_feature, placed};
+ghost use Rattle.graph.specs.Views.{owned_view};
+
+use crate::contents::Owned;
+use crate::filled::Filled;
+use crate::index::Key;
+use crate::parts::part_at;
+use crate::tables::{PackageEntry, PartEntry, Starts};
+
+// The records of a table from one number to another.
+fn between<'a>(first: u32, table: &'a [u32], from: u32, to: u32) -> Starts<'a>
+    requires within { (from ≤ to) × (to ≤ length table.now) }
+    requires few { first + (to - from) ≤ 36864 }
+    ensures first { result.first ≡ first }
+    ensures starts { result.starts.now ≡ take (to - from) (drop from table.now) }
+{
+    Starts {
+        first,
+        starts: &table[from as usize..to as usize],
+    }
+}
+
+impl<'a> Filled<'a> {
+    // How many dependencies and features the packages before one have.
+    fn before(&self, p: u32) -> PackageEntry
+        ensures dependency { result.dependency ≡ dependencies_before (its self.now) p }
+        ensures feature { result.feature ≡ features_before (its self.now) p }
+    {
+        let counts = self.directory.counts;
+        if p < counts.packages {
+            return self.directory.packages[p as usize];
+        }
+        PackageEntry {
+            proc_mark: false,
+            dependency: counts.dependencies,
+            feature: counts.features,
+        }
+    }
+
+    // The dependencies of a package. With `features` below it shares `between`; table, base and clauses differ.
+    pub(crate) fn dependencies(&self, p: u32) -> Starts<'a>
+        ensures count { length result.starts.now ≡ length (dependencies_of (its self.now) p) }
+        ensures records { (k : ℕ) → k < length (dependencies_of (its self.now) p) → ReadsAs self.now (slice_index result.starts.now k) (dependency (slice_index_or (dependencies_of (its self.now) p) k no_dependency)) }
+        ensures number { (k : ℕ) → result.first + k ≡ number (its self.now) (dep p k) }
+    {
+        let table = &self.directory.dependencies[..];
+        let from = self.before(p).dependency;
+        let to = self.before(p.saturating_add(1)).dependency;
+        between(self.directory.counts.packages + from, table, from, to)
+    }
+
+    // The features of a package.
+    pub(crate) fn features(&self, p: u32) -> Starts<'a>
+        ensures count { length result.starts.now ≡ length (features_of (its self.now) p) }
+        ensures records { (k : ℕ) → k < length (features_of (its self.now) p) → ReadsAs self.now (slice_index result.starts.now k) (feature (slice_index_or (features_of (its self.now) p) k no_feature)) }
+        ensures number { (k : ℕ) → result.first + k ≡ number (its self.now) (feat p k) }
+    {
+        let table = &self.directory.features[..];
+        let from = self.before(p).feature;
+        let to = self.before(p.saturating_add(1)).feature;
+        let before = self.directory.counts.packages + self.directory.counts.dependencies;
+        between(before + from, table, from, to)
+    }
+
+    // All dependencies and features, in file order.
+    pub(crate) fn parts(&self) -> &'a [PartEntry]
+        ensures count { length result.now ≡ length (placed (its self.now)) }
+        ensures parts { (j : ℕ) → j < length (placed (its self.now)) → PlacedAs self.now (slice_index_or result.now j no_part) (slice_index_or (placed (its self.now)) j no_placed) }
+    {
+        let count = self.directory.counts.dependencies + self.directory.counts.features;
+        let table = &self.directory.parts[..];
+        &table[..count as usize]
+    }
+
+    // The dependency or feature record at a place.
+    pub(crate) fn part_at(&self, start: u32) -> Option<Owned<'a>>
+        ensures { (p : Part) → ReadsAs self.now start p → on_some owned_view result ≡ Some p }
+    {
+        let directory = self.directory;
+        part_at(directory.index.file, start as usize)
+    }
+
+    // The local number of the feature of a package and name. Only here a `Key` is made of the two: names of dependencies
+    // are asked for by the same two, and are no keys.
+    pub(crate) fn feature_item(&self, owner: u32, name: &[u8]) -> Option<u32>
+        ensures { result ≡ on_some (λ j. number (its self.now) (feat owner j)) (place_of (features_of (its self.now) owner) name.now) }
+    {
+        let base = self.directory.counts.packages + self.directory.counts.dependencies;
+        let k = self.directory.index.find(Key { owner, name })?;
+        Some(base + k)
+    }
+
+    // Whether a package has a feature of this name.
+    pub(crate) fn has_feature(&self, p: u32, name: &[u8]) -> bool
+        ensures { result ≡ has_feature (features_of (its self.now) p) name.now }
+    {
+        self.feature_item(p, name).is_some()
+    }
+
+    // Whether a package is a procedural macro.
+    pub(crate) fn is_procedural(&self, p: u32) -> bool
+        ensures { result ≡ proc_of (its self.now) p }
+    {
+        p < self.directory.counts.packages && self.directory.packages[p as usize].proc_mark
+    }
+}
