@@ -8,12 +8,12 @@ use Rattle.std.specs.List.{AllByRecursion}
 use Rattle.std.specs.Str.{bytes_eq}
 use Rattle.records.specs.Graphs.{Feature, Part, dependency, feature, Graph}
 use Rattle.graph.specs.declared.index.Entry.{Entry}
-use Rattle.graph.specs.Keys.{Key, is_key, key_of, blank, entry_at, keys_of, Finds}
+use Rattle.graph.specs.Keys.{Key, is_key, key_of, blank, entry_at, keys_of}
 use Rattle.graph.specs.Law.{features_in, dependency_count, Differ, LawfulPackage}
 use Rattle.graph.specs.Gathered.{keys_in, keys_from}
 use Rattle.graph.specs.Places.{feat, features_of, features_before, number}
 use Rattle.graph.specs.Rules.{later, place_of, on_some}
-use Rattle.graph.proofs.Links.{keys_length, keys-at}
+use Rattle.graph.proofs.Links.{Finds, keys_length, keys-at}
 
 abbrev no_feature : Feature
 no_feature = record { name = []; values = [] }

@@ -1,19 +1,24 @@
 -- What a filled directory tells of the graph of its file.
-use Rattle.std.proofs.Common.{◌≡◌, ℕ, ◌+◌, ◌-◌, ◌<◌, ◌≤◌, List, Option, length, get_or, take, drop, sym, ap, ◌∙◌, subst, arith}
+use Rattle.std.proofs.Common.{◌≡◌, ℕ, ◌+◌, ◌-◌, ◌<◌, ◌≤◌, List, ◌∷◌, Some, Option, length, get_or, take, drop, sym, ap, ◌∙◌, subst, arith}
 use Rattle.std.proofs.lemmas.List.{get_or-take, get_or-drop, length-take-le, length-drop}
 use Rattle.std.proofs.Math.Logic.{∥∥₁_elim}
 use Rattle.std.proofs.Props.{props}
 use Rattle.records.specs.Graphs.{dependency, feature, Graph}
 use Rattle.graph.specs.declared.filled.Filled.{Filled}
 use Rattle.graph.specs.declared.tables.Directory.{Directory}
-use Rattle.graph.specs.Directory.{Tells, no_part, no_dependency, no_feature, no_placed}
+use Rattle.graph.specs.Depending.{Depending, depending, Named}
+use Rattle.graph.specs.Directory.{Tells, no_package, no_part, no_dependency, no_depending, no_feature, no_placed}
 use Rattle.graph.specs.Laying.{its, ReadsAs, PlacedAs}
 use Rattle.graph.specs.Law.{dependency_count, feature_count}
-use Rattle.graph.specs.Places.{feat, dependencies_of, features_of, number, dependencies_before, features_before}
-use Rattle.graph.specs.Keys.{Finds}
+use Rattle.graph.specs.Places.{feat, dependencies_of, features_of, proc_of, number, dependencies_before, features_before}
+use Rattle.graph.specs.Keys.{past, newest_of, IsEntry}
+use Rattle.graph.specs.Namesakes.{among_from, namesakes}
 use Rattle.graph.specs.Rules.{on_some, place_of}
 use Rattle.graph.specs.Second.{placed}
+use Rattle.graph.proofs.DependingPlaces.{depending-at, depending-length, all-namesakes}
+use Rattle.graph.proofs.NamesakesLeft.{all-named, from_end, from-newest, next-left}
 use Rattle.graph.proofs.FeaturePlaces.{finds-item}
+use Rattle.graph.proofs.Links.{found}
 use Rattle.graph.proofs.PartsAgain.{stands-reads}
 use Rattle.graph.proofs.Sets.{option-set}
 
@@ -56,6 +61,36 @@ module _ (x : Filled) where
   pub dependency-read : (p k : ℕ) → k < length (dependencies_of graph p) → ReadsAs x (get_or dir.dependencies (dependencies_before graph p + k) 0) (dependency (get_or (dependencies_of graph p) k no_dependency))
   dependency-read p k l = from-tables (option-set _ _) (λ t. stands-reads _ _ _ (t.depending p k l))
 
+  pub mark-told : (p : ℕ) → p < length graph → (get_or dir.packages p no_package).proc_mark ≡ proc_of graph p
+  mark-told p l = from-tables (hlevel props) (λ t. ap (λ e. e.proc_mark) (t.packaged p l))
+
+  -- dependency k of all
+  pub dependency-start : (k : ℕ) → k < length (depending 0 graph) → ReadsAs x (get_or dir.dependencies k 0) (dependency (get_or (depending 0 graph) k no_depending).dependency)
+  dependency-start k l =
+      let a = depending-at 0 graph k l in
+      subst (λ i. ReadsAs x (get_or dir.dependencies i 0) (dependency (get_or (depending 0 graph) k no_depending).dependency)) (sym a.3)
+      (subst (λ (d : Depending). ReadsAs x (get_or dir.dependencies (dependencies_before graph a.0 + a.1) 0) (dependency d.dependency)) (sym a.4) (dependency-read a.0 a.1 a.2))
+
+  pub many-depending : length (depending 0 graph) ≡ dependency_count graph
+  many-depending = depending-length 0 graph
+
+  -- a fact with at most one proof, from what the index of dependencies has
+  pub from-names : {P : Type 0} → IsProp P → (Named dir.named graph → P) → P
+  from-names one f = ∥∥₁_elim x.named one f
+
+  pub names-count : dir.named.lists.count ≡ length (depending 0 graph)
+  names-count = from-names (hlevel props) (λ named. all-named dir.named graph named)
+
+  -- those of a name are left from its newest entry on
+  pub names-left : (p : ℕ) (n : List ℕ) → among_from graph p n (length (depending 0 graph) - past (newest_of dir.named.lists.entries p n dir.named.lists.count)) ≡ namesakes graph p n
+  names-left p n = from-names (hlevel props) (λ named.
+      let z : length (depending 0 graph) - dir.named.lists.count ≡ 0 = omega (arith, all-named dir.named graph named) in
+      from-newest dir.named graph named p n dir.named.lists.count (omega (arith, all-named dir.named graph named)) ∙ ap (among_from graph p n) z ∙ all-namesakes graph p n)
+
+  -- and an entry of it is the next one
+  pub next-of-name : (p : ℕ) (n : List ℕ) (k : ℕ) → IsEntry dir.named.lists.entries dir.named.lists.count p n k → among_from graph p n (length (depending 0 graph) - past (Some k)) ≡ from_end graph k ∷ among_from graph p n (length (depending 0 graph) - past (newest_of dir.named.lists.entries p n k))
+  next-of-name p n k is = from-names (hlevel props) (λ named. next-left dir.named graph named p n k (omega (arith, is.0, names-count)) is.1)
+
   pub feature-read : (p k : ℕ) → k < length (features_of graph p) → ReadsAs x (get_or dir.features (features_before graph p + k) 0) (feature (get_or (features_of graph p) k no_feature))
   feature-read p k l = from-tables (option-set _ _) (λ t. stands-reads _ _ _ (t.featuring p k l))
 
@@ -79,7 +114,8 @@ module _ (x : Filled) where
       subst (λ s. ReadsAs x s (feature (get_or (features_of graph p) k no_feature))) (sym e) (feature-read p k l)
 
   -- what a search in the index says of the features of a package
-  pub finds-feature : (owner : ℕ) (name : List ℕ) (o : Option ℕ) → Finds dir.index.lists.entries dir.index.lists.count owner name o → on_some (λ k. (length graph + dependency_count graph) + k) o ≡ on_some (λ j. number graph (feat owner j)) (place_of (features_of graph owner) name)
-  finds-feature owner name o f = from-tables (hlevel props) (λ t.
-      let room : dir.index.lists.count ≤ length dir.index.lists.entries = omega (arith, dir.index.few, dir.index.linked.full) in
-      finds-item dir.index.lists.entries dir.index.lists.count graph owner name o room t.keyed t.says.lawful.packages f)
+  pub finds-feature : (owner : ℕ) (name : List ℕ) (o : Option ℕ) → o ≡ newest_of dir.index.lists.entries owner name dir.index.lists.count → on_some (λ k. (length graph + dependency_count graph) + k) o ≡ on_some (λ j. number graph (feat owner j)) (place_of (features_of graph owner) name)
+  finds-feature owner name o e = from-tables (hlevel props) (λ t.
+      let s = dir.index.lists in
+      let room : s.count ≤ length s.entries = omega (arith, dir.index.few, dir.index.linked.full) in
+      finds-item s.entries s.count graph owner name o room t.keyed t.says.lawful.packages (found s.entries owner name s.count o e))

@@ -12,6 +12,11 @@ pub mod PartsAgain
 pub mod FilledTells
 pub mod SheetRows
 pub mod FeaturePlaces
+pub mod DependingPlaces
+pub mod NamesakesLeft
+pub mod Steps
+pub mod DependenciesNamed
+pub mod NamesakesLaid
 pub mod Befores
 pub mod Filling
 pub mod Telling

@@ -1,12 +1,12 @@
--- Searches in the lists of the feature index, and one feature more in them.
-use Rattle.std.proofs.Common.{◌≡◌, ℕ, zero, suc, ◌+◌, ◌<◌, ◌≤◌, true, false, eqb, ◌⊎◌, List, [], ◌∷◌, length, get_or, take, set, replicate, is_some, Some, None, Option, sym, refl, ap, ◌∙◌, subst, inl, inr, ⊎_elim, arith}
+-- Searches in the lists of an index, and one entry more in them.
+use Rattle.std.proofs.Common.{◌≡◌, ℕ, zero, suc, ◌+◌, ◌-◌, ◌<◌, ◌≤◌, Bool, true, false, cond, eqb, ◌⊎◌, List, [], ◌∷◌, length, get_or, take, set, replicate, is_some, Some, None, Option, sym, refl, ap, ◌∙◌, subst, inl, inr, ⊎_elim, arith}
 use Rattle.std.proofs.lemmas.Slice.Eq.{bytes_eq-Decides}
 use Rattle.std.proofs.lemmas.Option.{none-some, same_Some}
 use Rattle.std.proofs.lemmas.List.{length-replicate, get_or-set_same, get_or-set_other, length-set, length-map, length-take-le, get_or-map, get_or-take}
-use Rattle.std.proofs.lemmas.Bool.{eqb-true, and_parts, cases_Bool, cases_eq, cases_lt, or_from, or_left, or_right}
+use Rattle.std.proofs.lemmas.Bool.{cond-true, cond-false, eqb-true, and_parts, cases_Bool, cases_eq, cases_lt, or_from, or_left, or_right}
 use Rattle.std.specs.Str.{bytes_eq}
 use Rattle.graph.specs.declared.index.Entry.{Entry}
-use Rattle.graph.specs.Keys.{Key, is_key, has_key, bucket_of, key_of, blank, entry_at, keys_of, bucket_at, most_features, past, Linked, Finds}
+use Rattle.graph.specs.Keys.{Key, is_key, has_key, bucket_of, key_of, blank, entry_at, keys_of, bucket_at, most_features, past, Linked, newest_of, IsEntry, InBucket}
 
 -- at any place, where the library's `get_or-replicate` asks for one inside
 pub nones : (n h : ℕ) → ◌≡◌ {A = Option ℕ} (get_or (replicate n None) h None) None
@@ -14,7 +14,7 @@ nones zero h = refl
 nones (suc n) zero = refl
 nones (suc n) (suc h) = nones n h
 
--- the lists of no features, which are blank entries
+-- the lists of no entries, which are blank entries
 pub linked-none : (m : ℕ) (e : Entry) (heads : List (Option ℕ)) → m ≡ most_features → ((h : ℕ) → get_or heads h None ≡ None) → Linked (replicate m e) heads 0
 linked-none m e heads f z = record {
   full = length-replicate m e ∙ f;
@@ -24,7 +24,7 @@ linked-none m e heads f z = record {
   nexted = λ k j l. absurd (omega arith);
 }
 
--- features of one package and name are in one bucket
+-- entries of one package and name are in one bucket
 pub key-bucket : (owner : ℕ) (name : List ℕ) (k : Key) → is_key owner name k ≡ true → bucket_of k.owner k.name ≡ bucket_of owner name
 key-bucket owner name k e =
     let h = and_parts (eqb k.owner owner) (bytes_eq k.name name) e in
@@ -32,65 +32,101 @@ key-bucket owner name k e =
     let n : k.name ≡ name = (bytes_eq-Decides k.name name).0 h.1 in
     λ i. bucket_of (o i) (n i)
 
--- no feature from lo on is that of this package and name
-abbrev pub Absent : List Entry → ℕ → List ℕ → ℕ → ℕ → Type 0
-Absent entries owner name lo n = (k : ℕ) → lo ≤ k → k < n → is_key owner name (key_of (entry_at entries k)) ≡ false
-
--- how far a search has come, which looks at this feature next: it is in its bucket, and has passed none that is
--- looked for
-pub record Searching (entries : List Entry) (n owner : ℕ) (name : List ℕ) (at : Option ℕ) : Type 0 where
-  pub below : (k : ℕ) → at ≡ Some k → k < n
-  pub own : (k : ℕ) → at ≡ Some k → bucket_at entries k ≡ bucket_of owner name
-  pub passed : Absent entries owner name (past at) n
+-- what a search among the first n entries finds
+abbrev pub Finds : List Entry → ℕ → ℕ → List ℕ → Option ℕ → Type 0
+Finds entries n owner name None = (k : ℕ) → k < n → is_key owner name (key_of (entry_at entries k)) ≡ false
+Finds entries n owner name (Some k) = IsEntry entries n owner name k
 
 -- a number less than k, or none, is past by k at most
 past-below : (o : Option ℕ) (k : ℕ) → ((j : ℕ) → o ≡ Some j → j < k) → past o ≤ k
 past-below None k f = omega arith
 past-below (Some j) k f = omega (arith, f j refl)
 
-module _ (entries : List Entry) (heads : List (Option ℕ)) (n : ℕ) (linked : Linked entries heads n) (owner : ℕ) (name : List ℕ) where
-  not-here : (k : ℕ) → (is_key owner name (key_of (entry_at entries k)) ≡ true → ⊥) → is_key owner name (key_of (entry_at entries k)) ≡ false
-  not-here k f = ⊎_elim (λ (e : is_key owner name (key_of (entry_at entries k)) ≡ true). absurd (f e)) (λ (e : is_key owner name (key_of (entry_at entries k)) ≡ false). e) (cases_Bool (is_key owner name (key_of (entry_at entries k))))
+module _ (entries : List Entry) (owner : ℕ) (name : List ℕ) where
+  -- whether entry k has the key
+  abbrev here : ℕ → Bool
+  here k = is_key owner name (key_of (entry_at entries k))
 
-  -- the search begins at the head of the bucket
-  pub search-starts : (b : ℕ) → b ≡ bucket_of owner name → Searching entries n owner name (get_or heads b None)
-  search-starts b e = record {
-    below = λ k q. (linked.headed b k q).0;
-    own = λ k q. (linked.headed b k q).1 ∙ e;
-    passed = λ k l m. not-here k (λ t.
-        let q : bucket_at entries k ≡ b = key-bucket owner name (key_of (entry_at entries k)) t ∙ sym e in
-        let h : k < past (get_or heads b None) = subst (λ x. k < past (get_or heads x None)) q (linked.newest k m) in
-        omega arith);
-  }
+  not-here : (k : ℕ) → (here k ≡ true → ⊥) → here k ≡ false
+  not-here k f = ⊎_elim (λ (e : here k ≡ true). absurd (f e)) (λ (e : here k ≡ false). e) (cases_Bool (here k))
+
+  newest-finds : (n : ℕ) → Finds entries n owner name (newest_of entries owner name n)
+  newest-finds zero = λ k l. absurd (omega arith)
+  newest-finds (suc n) = go (here n) refl (newest_of entries owner name n) (newest-finds n)
+    where
+      go : (b : Bool) → here n ≡ b → (o : Option ℕ) → Finds entries n owner name o → Finds entries (suc n) owner name (cond b (Some n) o)
+      go true q o f = (omega arith, q)
+      go false q None f = λ k l. ⊎_elim (λ (w : k < n). f k w) (λ (w : n ≤ k). let z : k ≡ n = omega arith in ap here z ∙ q) (cases_lt k n)
+      go false q (Some k) f = (omega (arith, f.0), f.1)
+
+  pub found : (n : ℕ) (o : Option ℕ) → o ≡ newest_of entries owner name n → Finds entries n owner name o
+  found n o e = subst (Finds entries n owner name) (sym e) (newest-finds n)
+
+  -- entries of other keys are passed over
+  skips : (lo m : ℕ) → ((k : ℕ) → lo ≤ k → k < lo + m → here k ≡ false) → newest_of entries owner name (lo + m) ≡ newest_of entries owner name lo
+  skips lo zero h = let z : lo + 0 ≡ lo = omega arith in ap (newest_of entries owner name) z
+  skips lo (suc m) h =
+      let z : lo + suc m ≡ suc (lo + m) = omega arith in
+      ap (newest_of entries owner name) z ∙ cond-false _ _ _ (h (lo + m) (omega arith) (omega arith)) ∙ skips lo m (λ k l u. h k l (omega arith))
+
+  skips-to : (lo hi : ℕ) → lo ≤ hi → ((k : ℕ) → lo ≤ k → k < hi → here k ≡ false) → newest_of entries owner name lo ≡ newest_of entries owner name hi
+  skips-to lo hi l h =
+      let z : lo + (hi - lo) ≡ hi = omega arith in
+      sym (skips lo (hi - lo) (λ k a b. h k a (omega arith))) ∙ ap (newest_of entries owner name) z
+
+module _ (entries : List Entry) (heads : List (Option ℕ)) (n : ℕ) (linked : Linked entries heads n) (owner : ℕ) (name : List ℕ) where
+  -- a search begins at the head of the bucket
+  pub head-in : (b : ℕ) → b ≡ bucket_of owner name → InBucket entries n owner name (get_or heads b None)
+  head-in b e = go (get_or heads b None) refl
+    where
+      go : (o : Option ℕ) → get_or heads b None ≡ o → InBucket entries n owner name o
+      go None q = tt
+      go (Some k) q = ((linked.headed b k q).0, (linked.headed b k q).1 ∙ e)
+
+  pub head-newest : (b : ℕ) → b ≡ bucket_of owner name → newest_of entries owner name (past (get_or heads b None)) ≡ newest_of entries owner name n
+  head-newest b e = skips-to entries owner name _ n (past-below (get_or heads b None) n (λ j q. (linked.headed b j q).0)) (λ k l m. not-here entries owner name k (λ t.
+      let q : bucket_at entries k ≡ b = key-bucket owner name (key_of (entry_at entries k)) t ∙ sym e in
+      let h : k < past (get_or heads b None) = subst (λ x. k < past (get_or heads x None)) q (linked.newest k m) in
+      omega arith))
 
   -- and goes on with the next older one
-  pub search-goes : (at : Option ℕ) (k : ℕ) → at ≡ Some k → Searching entries n owner name at → is_key owner name (key_of (entry_at entries k)) ≡ false → Searching entries n owner name (entry_at entries k).next
-  search-goes at k e s here =
-      let m : k < n = s.below k e in
-      let mine : bucket_at entries k ≡ bucket_of owner name = s.own k e in
-      let upto : past at ≡ k + 1 = ap past e in
-      record {
-        below = λ j q. omega (arith, (linked.nexted k j m q).0);
-        own = λ j q. (linked.nexted k j m q).1 ∙ mine;
-        passed = λ j l b. ⊎_elim
-            (λ (w : k < j). s.passed j (omega arith) b)
-            (λ (w : j ≤ k). ⊎_elim
-            (λ (q : j ≡ k). ap (λ i. is_key owner name (key_of (entry_at entries i))) q ∙ here)
-            (λ (q : j ≡ k → ⊥). not-here j (λ t.
-            let d : j < k = ⊎_elim (λ (r : j < k). r) (λ (r : k ≤ j). absurd (q (omega arith))) (cases_lt j k) in
-            let u : bucket_at entries j ≡ bucket_at entries k = key-bucket owner name (key_of (entry_at entries j)) t ∙ sym mine in
-            let o : j < past (entry_at entries k).next = linked.between j k d m u in
-            omega arith))
-            (cases_eq j k))
-            (cases_lt k j);
-      }
+  module _ (k : ℕ) (m : k < n) (mine : bucket_at entries k ≡ bucket_of owner name) where
+    pub next-in : InBucket entries n owner name (entry_at entries k).next
+    next-in = go (entry_at entries k).next refl
+      where
+        go : (o : Option ℕ) → (entry_at entries k).next ≡ o → InBucket entries n owner name o
+        go None q = tt
+        go (Some j) q = (omega (arith, (linked.nexted k j m q).0), (linked.nexted k j m q).1 ∙ mine)
 
-  -- which is nearer to the end
-  pub search-nears : (at : Option ℕ) (k : ℕ) → at ≡ Some k → Searching entries n owner name at → past (entry_at entries k).next < past at
-  search-nears at k e s =
-      omega (arith, ap past e, past-below (entry_at entries k).next k (λ j q. (linked.nexted k j (s.below k e) q).0))
+    -- which is nearer to the end
+    pub next-nears : past (entry_at entries k).next ≤ k
+    next-nears = past-below (entry_at entries k).next k (λ j q. (linked.nexted k j m q).0)
 
--- one feature more
+    pub next-newest : newest_of entries owner name (past (entry_at entries k).next) ≡ newest_of entries owner name k
+    next-newest = skips-to entries owner name _ k next-nears (λ j l d. not-here entries owner name j (λ t.
+        let u : bucket_at entries j ≡ bucket_at entries k = key-bucket owner name (key_of (entry_at entries j)) t ∙ sym mine in
+        let o : j < past (entry_at entries k).next = linked.between j k d m u in
+        omega arith))
+
+  -- one turn of a search that looks at entry k
+  module _ (at : Option ℕ) (k : ℕ) (is : at ≡ Some k) (own : InBucket entries n owner name at) where
+    pub at-entry : (k < n) × (bucket_at entries k ≡ bucket_of owner name)
+    at-entry = subst (InBucket entries n owner name) is own
+
+    pub search-nears : past (entry_at entries k).next < past at
+    search-nears = omega (arith, ap past is, next-nears k at-entry.0 at-entry.1)
+
+    -- what it finds from there on
+    more : newest_of entries owner name (past at) ≡ cond (here entries owner name k) (Some k) (newest_of entries owner name k)
+    more = let z : past at ≡ suc k = omega (arith, ap past is) in ap (newest_of entries owner name) z
+
+    pub search-ends : (all : Option ℕ) → newest_of entries owner name (past at) ≡ all → here entries owner name k ≡ true → Some k ≡ all
+    search-ends all e t = sym (cond-true _ _ _ t) ∙ sym more ∙ e
+
+    pub search-goes : (all : Option ℕ) → newest_of entries owner name (past at) ≡ all → here entries owner name k ≡ false → InBucket entries n owner name (entry_at entries k).next × (newest_of entries owner name (past (entry_at entries k).next) ≡ all)
+    search-goes all e f = (next-in k at-entry.0 at-entry.1, next-newest k at-entry.0 at-entry.1 ∙ sym (cond-false _ _ _ f) ∙ sym more ∙ e)
+
+-- one entry more
 module _ (entries : List Entry) (heads : List (Option ℕ)) (n : ℕ) (linked : Linked entries heads n) (e : Entry) (h : ℕ)
     (room : n < length entries) (among : h < length heads) (mine : h ≡ bucket_of (key_of e).owner (key_of e).name)
     (onward : e.next ≡ get_or heads h None) where

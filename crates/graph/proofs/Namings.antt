@@ -1,13 +1,20 @@
 -- Checks of single records make those of all.
-use Rattle.std.proofs.Common.{◌≡◌, ℕ, ◌+◌, ◌<◌, Bool, cond, List, [], ◌∷◌, map, length, get_or, drop, Some, Err, Option, Result, sym, refl, ap, ◌∙◌}
+use Rattle.std.proofs.Common.{◌≡◌, ℕ, ◌+◌, ◌<◌, Bool, cond, List, [], ◌∷◌, map, length, get_or, drop, Some, None, Err, Option, Result, sym, refl, ap, ◌∙◌, arith}
 use Rattle.std.proofs.lemmas.List.{at_drop_more}
+use Rattle.std.proofs.lemmas.Option.{none-some}
 use Rattle.records.specs.declared.faults.RecordFault.TheVariants.{Unknown}
 use Rattle.graph.specs.declared.faults.InRecord.{InRecord}
+use Rattle.graph.specs.declared.contents.Owned as owned
+use Rattle.graph.specs.declared.contents.Owned.TheVariants as kept
 use Rattle.graph.specs.Directory.{no_placed}
+use Rattle.graph.specs.Rules.{on_some}
+use Rattle.graph.specs.Views.{owned_view}
 use Rattle.graph.specs.Second.{Placed, first_unknown, fault_at, checked}
 use Rattle.text.specs.Forms.{Form, spell}
-use Rattle.records.specs.Bodies.{form_in}
-use Rattle.records.specs.Graphs.{Part}
+use Rattle.records.specs.Bodies.{form_in, dependency_view, feature_view}
+use Rattle.records.specs.declared.bodies.Dependency.{Dependency as DependencyBody}
+use Rattle.records.specs.declared.bodies.Feature.{Feature as FeatureBody}
+use Rattle.records.specs.Graphs.{Dependency, Part, dependency, feature}
 use Rattle.records.proofs.Listings.{said-spelled}
 
 -- what is unknown in some strings, by the strings and by what they say
@@ -30,3 +37,14 @@ module _ (test : Placed → Option ℕ) (xs : List Placed) (j : ℕ) (all : Resu
       (λ i. Err (record { number = n i; start = s i; fault = Unknown field }))
       ∙ ap (λ u. fault_at (get_or xs j no_placed) u (checked test (drop (j + 1) xs))) (sym e)
       ∙ opened
+
+-- a record that is read again as a dependency is that one
+module _ (o : Option owned.Owned) (d : Dependency) (e : on_some owned_view o ≡ Some (dependency d)) where
+  pub read-dependency : (x : DependencyBody) → o ≡ Some (kept.Dependency x) → dependency_view x ≡ d
+  read-dependency x q = let z : dependency (dependency_view x) ≡ dependency d = same-part _ _ (sym (ap (on_some owned_view) q) ∙ e) in cc
+
+  pub read-no-feature : (x : FeatureBody) → o ≡ Some (kept.Feature x) → ⊥
+  read-no-feature x q = let z : feature (feature_view x) ≡ dependency d = same-part _ _ (sym (ap (on_some owned_view) q) ∙ e) in let w : ◌≡◌ {A = ℕ} 0 1 = cc in omega arith
+
+  pub read-something : o ≡ None → ⊥
+  read-something q = none-some (dependency d) (sym (ap (on_some owned_view) q) ∙ e)

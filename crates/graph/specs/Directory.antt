@@ -1,5 +1,5 @@
 -- What a directory tells of the graph of its file.
-use Rattle.std.specs.Prelude.{◌≡◌, ℕ, ◌+◌, ◌<◌, false, List, [], ◌++◌, length, drop, Ok, Err, Result, slice_index, slice_index_or}
+use Rattle.std.specs.Prelude.{◌≡◌, ℕ, ◌+◌, ◌<◌, false, List, [], ◌++◌, length, drop, Some, Ok, Err, Result, slice_index, slice_index_or}
 use Rattle.records.specs.declared.bodies.Edge.TheVariants.{Normal}
 use Rattle.records.specs.Graphs.{Dependency, Feature, Part, dependency, feature, Graph}
 use Rattle.records.specs.Encoding.{part_bytes, encode}
@@ -11,7 +11,9 @@ use Rattle.graph.specs.declared.tables.PartEntry.{PartEntry}
 use Rattle.graph.specs.declared.tables.Directory.{Directory}
 use Rattle.graph.specs.Reading.{first_reading}
 use Rattle.graph.specs.Law.{LawfulPart, Says, dependency_count, feature_count}
+use Rattle.graph.specs.Depending.{Depending, owned, Named}
 use Rattle.graph.specs.Gathered.{keys_from}
+use Rattle.graph.specs.Parts.{part_in}
 use Rattle.graph.specs.Places.{dependencies_of, features_of, proc_of, dependencies_before, features_before}
 use Rattle.graph.specs.Second.{Placed, placed}
 use Rattle.graph.specs.Views.{keys}
@@ -35,8 +37,17 @@ no_dependency = record { end = 0; edge = Normal; optional = false; defaults = fa
 abbrev pub no_feature : Feature
 no_feature = record { name = []; values = [] }
 
+abbrev pub no_depending : Depending
+no_depending = owned 0 no_dependency
+
 abbrev pub no_placed : Placed
 no_placed = record { number = 0; start = 0; owner = 0; part = dependency no_dependency }
+
+-- the first n entries of the table of all records are those of these records
+pub record Places (file : List ℕ) (entries : List PartEntry) (n : ℕ) (xs : List Placed) : Type 0 where
+  pub count : n ≡ length xs
+  pub owners : (j : ℕ) → j < length xs → (slice_index_or entries j no_part).owner ≡ (slice_index_or xs j no_placed).owner
+  pub parts : (j : ℕ) → j < length xs → part_in (drop (slice_index_or entries j no_part).start file) ≡ Some (slice_index_or xs j no_placed).part
 
 -- the first reading has accepted the graph g of the file, and leaves this index and these counts
 pub record Accepted (index : Index) (counts : Counts) (g : Graph) : Type 0 where
@@ -56,5 +67,5 @@ pub record Tells (dir : Directory) (g : Graph) : Type 0 where
 
 -- what a reading answers, with the directory that it leaves
 abbrev pub ReadAs : List ℕ → Result (Unit {0}) FileFault → Directory → Type 0
-ReadAs file (Ok u) dir = (dir.index.file.now ≡ file) × ((g : Graph) × (first_reading file ≡ Ok (g, dir.counts.read)) × Tells dir g)
+ReadAs file (Ok u) dir = (dir.index.file.now ≡ file) × ((g : Graph) × (first_reading file ≡ Ok (g, dir.counts.read)) × Tells dir g × Named dir.named g)
 ReadAs file (Err e) dir = first_reading file ≡ Err e

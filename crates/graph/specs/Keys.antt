@@ -1,11 +1,11 @@
--- Features by package and name, and the index that finds them.
-use Rattle.std.specs.Prelude.{◌≡◌, ℕ, ◌+◌, ◌*◌, ◌%◌, ◌<◌, Bool, true, false, ◌&&◌, ◌||◌, List, [], ◌∷◌, map, length, take, Some, None, Option, ◌==◌, slice_index_or}
+-- Features, or dependencies, by package and name, and the index that finds them.
+use Rattle.std.specs.Prelude.{◌≡◌, ℕ, zero, suc, ◌+◌, ◌*◌, ◌%◌, ◌<◌, Bool, true, false, cond, ◌&&◌, ◌||◌, List, [], ◌∷◌, map, length, take, Some, None, Option, ◌==◌, slice_index_or}
 use Rattle.std.specs.List.{fold}
 use Rattle.std.specs.Str.{bytes_eq}
 use Rattle.graph.specs.declared.index.Entry.{Entry}
 use Rattle.graph.specs.declared.index.Key as code
 
--- the package of a feature, and its name
+-- the package of an entry, and its name
 pub record Key : Type 0 where
   pub owner : ℕ
   pub name : List ℕ
@@ -17,7 +17,7 @@ abbrev pub has_key : ℕ → List ℕ → List Key → Bool
 has_key owner name [] = false
 has_key owner name (k ∷ ks) = is_key owner name k || has_key owner name ks
 
--- the bucket of a feature
+-- the bucket of a key
 abbrev pub hash_step : ℕ → ℕ → ℕ
 hash_step h b = (h * 263 + b) % 32749
 
@@ -43,7 +43,7 @@ keys_of entries n = map key_of (take n entries)
 abbrev pub bucket_at : List Entry → ℕ → ℕ
 bucket_at entries k = bucket_of (key_of (entry_at entries k)).owner (key_of (entry_at entries k)).name
 
--- how many features the index has room for
+-- how many entries the index has room for
 abbrev pub most_features : ℕ
 most_features = 16384
 
@@ -55,7 +55,7 @@ past (Some k) = k + 1
 abbrev pub head_of : List (Option ℕ) → ℕ → Option ℕ
 head_of heads h = slice_index_or heads h None
 
--- The lists of the buckets are whole: of the first n features,
+-- The lists of the buckets are whole: of the first n entries,
 pub record Linked (entries : List Entry) (heads : List (Option ℕ)) (n : ℕ) : Type 0 where
   pub full : length entries ≡ most_features
   -- none is newer than the head of its bucket, which is one of that bucket;
@@ -65,7 +65,15 @@ pub record Linked (entries : List Entry) (heads : List (Option ℕ)) (n : ℕ) :
   pub between : (j k : ℕ) → j < k → k < n → bucket_at entries j ≡ bucket_at entries k → j < past (entry_at entries k).next
   pub nexted : (k j : ℕ) → k < n → (entry_at entries k).next ≡ Some j → (j < k) × (bucket_at entries j ≡ bucket_at entries k)
 
--- what a search among the first n features answers
-abbrev pub Finds : List Entry → ℕ → ℕ → List ℕ → Option ℕ → Type 0
-Finds entries n owner name None = (k : ℕ) → k < n → is_key owner name (key_of (entry_at entries k)) ≡ false
-Finds entries n owner name (Some k) = (k < n) × (is_key owner name (key_of (entry_at entries k)) ≡ true)
+-- the newest of the first n entries that has a key
+abbrev pub newest_of : List Entry → ℕ → List ℕ → ℕ → Option ℕ
+newest_of entries owner name zero = None
+newest_of entries owner name (suc n) = cond (is_key owner name (key_of (entry_at entries n))) (Some n) (newest_of entries owner name n)
+
+-- entry k, one of the first n, has a key; and an entry, if any, is one of the bucket of a key
+abbrev pub IsEntry : List Entry → ℕ → ℕ → List ℕ → ℕ → Type 0
+IsEntry entries n owner name k = (k < n) × (is_key owner name (key_of (entry_at entries k)) ≡ true)
+
+abbrev pub InBucket : List Entry → ℕ → ℕ → List ℕ → Option ℕ → Type 0
+InBucket entries n owner name None = Unit {0}
+InBucket entries n owner name (Some k) = (k < n) × (bucket_at entries k ≡ bucket_of owner name)

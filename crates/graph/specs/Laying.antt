@@ -43,7 +43,7 @@ row_found g x p n = when_some (place_of (features_of g p) n) (λ j. row_to x (nu
 
 -- from an item to the feature of a name of a package
 abbrev pub ask_rows : Graph → ℕ → Lane → ℕ → List ℕ → List Row
-ask_rows g from lane end n = when_some (place_of (features_of g end) n) (λ j. record { from = from; mate = None; to = number g (feat end j); lane = Some lane; cross = true })
+ask_rows g from lane end n = row_found g (record { from = from; mate = None; lane = Some lane; cross = true }) end n
 
 -- the rows of a dependency whose number is `item`, in a package `owner`
 abbrev pub dependency_rows : Graph → ℕ → ℕ → Dependency → List Row
@@ -56,7 +56,7 @@ dependency_rows g owner item d =
 -- the rows of a value for one dependency that it names: it may switch it on, and it may name a feature of its end
 abbrev pub weak_rows : Graph → ℕ → Option (List ℕ) → ℕ → Dependency → List Row
 weak_rows g from None item d = []
-weak_rows g from (Some x) item d = when_some (place_of (features_of g d.end) x) (λ i. record { from = from; mate = Some item; to = number g (feat d.end i); lane = Some (lane_of g d); cross = true })
+weak_rows g from (Some x) item d = row_found g (record { from = from; mate = Some item; lane = Some (lane_of g d); cross = true }) d.end x
 
 abbrev pub switch_rows : Graph → ℕ → Bool → ℕ → Dependency → List Row
 switch_rows g from switches item d = when (switches && d.optional) (record { from = from; mate = None; to = item; lane = Some (lane_of g d); cross = false })
@@ -70,7 +70,7 @@ each_named g p from n switches x = each (λ k. one_named g from n switches x (nu
 
 -- the rows of a value of a feature, whose number is `from`, of package p
 abbrev pub value_rows : Graph → ℕ → ℕ → Form (List ℕ) → List Row
-value_rows g p from (plain n) = when_some (place_of (features_of g p) n) (λ i. record { from = from; mate = None; to = number g (feat p i); lane = None; cross = false })
+value_rows g p from (plain n) = row_found g (record { from = from; mate = None; lane = None; cross = false }) p n
 value_rows g p from (switch n) = each_named g p from n true None
 value_rows g p from (strong n x) = each_named g p from n true (Some x)
 value_rows g p from (weak n x) = each_named g p from n false (Some x)

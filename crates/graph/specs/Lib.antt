@@ -7,12 +7,14 @@ pub mod Places
 pub mod Rules
 pub mod Second
 pub mod Opening
+pub mod Depending
 pub mod Directory
 pub mod OpeningLaw
 pub mod Filling
 pub mod Sheets
 pub mod Parts
 pub mod Laying
+pub mod Namesakes
 pub mod Checks
 pub mod Refusals
 pub mod Examples

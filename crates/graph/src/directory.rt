@@ -1,15 +1,22 @@
 // Filling a directory: one pass over the records of a file that the first reading has accepted.
-ghost use Rattle.std.specs.Prelude.{◌≡◌, ◌+◌, length, drop, Some, Ok, ◌≢◌};
+ghost use Rattle.std.specs.Prelude.{◌≡◌, ◌+◌, ◌≤◌, List, length, drop, Some, Ok, ◌≢◌};
 ghost use Rattle.records.specs.declared.frames.Kind.TheVariants.{End};
 ghost use Rattle.records.specs.Frames.{kind_at, frame as frame_view, frame_of};
 ghost use Rattle.records.specs.Encoding.{Bytes};
-ghost use Rattle.records.specs.Graphs.{Graph};
-ghost use Rattle.graph.specs.Directory.{Accepted, Tells, ReadAs};
+ghost use Rattle.records.specs.Graphs.{Graph, Part};
+ghost use Rattle.graph.specs.Depending.{key_if, last_keys};
+ghost use Rattle.graph.specs.Directory.{Places, Accepted, Tells, ReadAs};
+ghost use Rattle.graph.specs.Keys.{key_view};
+ghost use Rattle.graph.specs.Parts.{part_in};
+ghost use Rattle.graph.specs.Rules.{when_some};
+ghost use Rattle.graph.specs.Second.{Placed};
+ghost use Rattle.graph.specs.Views.{keys};
 ghost use Rattle.graph.specs.Filling.{marked, tables_of, Midway};
 
-use crate::contents::Counts;
+use crate::contents::{Counts, Owned};
 use crate::faults::FileFault;
-use crate::index::{Index, MAX_FEATURES};
+use crate::index::{Index, Key, MAX_FEATURES};
+use crate::parts::part_at;
 use crate::reading::first_reading;
 use crate::tables::{
     Directory, MAX_DEPENDENCIES, MAX_PACKAGES, MAX_PARTS, PackageEntry, PartEntry,
@@ -26,10 +33,41 @@ fn is_marked(body: &[u8]) -> bool
     matches!(body, [1, ..])
 }
 
+// The package and name of a record, if it is a dependency.
+fn key_of<'a>(file: &'a [u8], entry: PartEntry) -> Option<Key<'a>>
+    ensures { (x : Part) → part_in (drop entry.start file.now) ≡ Some x → when_some result key_view ≡ key_if entry.owner x }
+{
+    match part_at(file, entry.start as usize)? {
+        Owned::Dependency(d) => Some(Key {
+            owner: entry.owner,
+            name: d.name.bytes,
+        }),
+        Owned::Feature(_) => None,
+    }
+}
+
+// Fills the index of dependencies from so many records of the file, from the last one to the first.
+fn name_dependencies<'a>(
+    named: &mut Index<'a>,
+    parts: &[PartEntry; MAX_PARTS],
+    count: usize,
+    file: &'a [u8],
+)
+    requires new { named.old.lists.count ≡ 0 }
+    requires told { (xs : List Placed) × Places file.now parts.now count xs × (count ≤ 32768) × (length (last_keys xs) ≤ 16384) }
+    ensures { (xs : List Placed) → Places file.now parts.now count xs → keys named.new ≡ last_keys xs }
+{
+    for entry in parts[..count].iter().rev() {
+        if let Some(key) = key_of(file, *entry) {
+            named.add(key);
+        }
+    }
+}
+
 impl<'a> Directory<'a> {
     // A directory with empty tables, for a file.
     pub(crate) fn new(file: &'a [u8]) -> Directory<'a>
-        ensures { (result.index.file.now ≡ file.now) × (result.index.lists.count ≡ 0) }
+        ensures { (result.index.file.now ≡ file.now) × (result.index.lists.count ≡ 0) × (result.named.lists.count ≡ 0) }
     {
         let package = PackageEntry {
             proc_mark: false,
@@ -45,6 +83,7 @@ impl<'a> Directory<'a> {
         };
         Directory {
             index: Index::new(file),
+            named: Index::new(file),
             counts,
             packages: [package; MAX_PACKAGES],
             dependencies: [0; MAX_DEPENDENCIES],
@@ -59,7 +98,7 @@ impl<'a> Directory<'a> {
         requires here { frame_of (drop so_far.read self.old.index.file.now) ≡ Ok (frame_view frame) }
         requires kind { kind_at frame.kind ≡ Some kind }
         requires inside { kind ≢ End }
-        ensures same { (self.new.index ≡ self.old.index) × (self.new.counts ≡ self.old.counts) }
+        ensures same { (self.new.index ≡ self.old.index) × (self.new.named ≡ self.old.named) × (self.new.counts ≡ self.old.counts) }
         ensures start { result.read ≡ so_far.read + (length frame.entry.body.now + 6) }
         ensures midway { Midway self.new.index.file.now (tables_of self.new) result.read result.packages result.dependencies result.features }
     {
@@ -100,7 +139,7 @@ impl<'a> Directory<'a> {
     fn fill(&mut self)
         requires { (g : Graph) × Accepted self.old.index self.old.counts g }
         ensures told { (g : Graph) → Accepted self.old.index self.old.counts g → Tells self.new g }
-        ensures kept { (self.new.index ≡ self.old.index) × (self.new.counts ≡ self.old.counts) }
+        ensures kept { (self.new.index ≡ self.old.index) × (self.new.named ≡ self.old.named) × (self.new.counts ≡ self.old.counts) }
     {
         let file = self.index.file;
         let mut so_far = Counts {
@@ -127,12 +166,19 @@ impl<'a> Directory<'a> {
 
     // The first reading of the file, which fills the tables of a directory that is new.
     pub(crate) fn read(&mut self) -> Result<(), FileFault>
-        requires new { self.old.index.lists.count ≡ 0 }
+        requires new { (self.old.index.lists.count ≡ 0) × (self.old.named.lists.count ≡ 0) }
         requires bytes { Bytes self.old.index.file.now }
         ensures { ReadAs self.old.index.file.now result self.new }
     {
         self.counts = first_reading(&mut self.index)?;
         self.fill();
+        let count = self.counts.dependencies + self.counts.features;
+        name_dependencies(
+            &mut self.named,
+            &self.parts,
+            count as usize,
+            self.index.file,
+        );
         Ok(())
     }
 }

@@ -1,4 +1,4 @@
-// An index of the features of a graph file, by package and name.
+// An index of the features, or of the dependencies, of a graph file, by package and name.
 ghost use Rattle.std.specs.Prelude.{◌≤◌};
 ghost use Rattle.graph.specs.Keys.{Linked};
 ghost use Rattle.std.proofs.Props.{props};
@@ -6,34 +6,35 @@ ghost use Rattle.std.proofs.Props.{props};
 // The most features of a graph.
 pub const MAX_FEATURES: usize = 16_384;
 
-// How many lists the features are spread over.
+// How many lists the entries are spread over.
 pub const BUCKETS: usize = 32_749;
 
-// What a feature is found by: the number of its package, and its name.
+// What an entry is found by: the number of its package, and its name.
 #[derive(Clone, Copy, PartialEq, Eq)]
 pub struct Key<'a> {
     pub owner: u32,
     pub name: &'a [u8],
 }
 
-// A feature, and the number of the feature before it in its bucket's list.
+// A feature or dependency, and the number of the entry before it in its bucket's list.
 #[derive(Clone, Copy)]
 pub struct Entry<'a> {
     pub key: Key<'a>,
-    pub next: Option<u32>,
+    pub next: Option<u16>,
 }
 
-// The features so far, by number; and for each bucket the number of its newest feature. The memory is fixed, since the
-// library allocates nothing, so the lists are linked by number. They are a type of their own since `add` writes all
-// three fields before the lists are whole again.
+// The entries so far, by number; and for each bucket the number of its newest entry. The memory is fixed, since the
+// library allocates nothing, so the lists are linked by number. There is room for the most features, and so for the
+// most dependencies, which are as many. The lists are a type of their own since `add` writes all three fields before
+// they are whole again.
 #[derive(Drop)]
 pub struct Lists<'a> {
-    pub count: u32,
+    pub count: u16,
     pub entries: [Entry<'a>; MAX_FEATURES],
-    pub heads: [Option<u32>; BUCKETS],
+    pub heads: [Option<u16>; BUCKETS],
 }
 
-// An index of the features of a file, whose lists are whole.
+// An index of parts of a file, whose lists are whole.
 #[derive(Drop)]
 pub struct Index<'a> {
     pub file: &'a [u8],

@@ -10,6 +10,8 @@ mod filled;
 mod index;
 pub mod limits;
 mod lookup;
+mod named;
+mod namesakes;
 pub mod opening;
 mod parts;
 mod places;

@@ -1,10 +1,10 @@
-// Finding features in the index, and adding to it.
+// Finding features and dependencies in an index, and adding to it.
 ghost use Rattle.std.specs.Prelude.{◌≡◌, ℕ, ◌+◌, ◌<◌, [], ◌∷◌, ◌++◌, length, nat_le};
-ghost use Rattle.graph.specs.Keys.{is_key, has_key, key_of, key_view, keys_of, entry_at, bucket_of, most_features, Linked, Finds};
+ghost use Rattle.graph.specs.Keys.{is_key, has_key, key_of, key_view, keys_of, entry_at, bucket_of, most_features, past, Linked, newest_of, IsEntry, InBucket};
 
 use crate::index::{BUCKETS, Entry, Index, Key, Lists, MAX_FEATURES};
 
-// The bucket of a feature.
+// The bucket of a key.
 fn bucket(key: Key<'_>) -> usize
     ensures value { result ≡ bucket_of key.entry.owner key.entry.name.now }
     ensures below { result < 32749 }
@@ -18,7 +18,7 @@ fn bucket(key: Key<'_>) -> usize
 }
 
 impl<'a> Lists<'a> {
-    // One feature more.
+    // One entry more.
     fn add(&mut self, key: Key<'a>)
         requires room { self.old.count < 16384 }
         requires linked { Linked self.old.entries self.old.heads self.old.count }
@@ -38,7 +38,7 @@ impl<'a> Lists<'a> {
 }
 
 impl<'a> Index<'a> {
-    // An index of no features.
+    // An index of nothing.
     pub(crate) fn new(file: &'a [u8]) -> Index<'a>
         ensures { (result.file.now ≡ file.now) × (result.lists.count ≡ 0) }
     {
@@ -55,7 +55,7 @@ impl<'a> Index<'a> {
         Index { file, lists }
     }
 
-    // Whether feature `k` is that of this package and name.
+    // Whether entry `k` is of this package and name.
     fn is_at(&self, k: usize, key: Key<'_>) -> bool
         requires { k < self.now.lists.count }
         ensures { result ≡ is_key key.entry.owner key.entry.name.now (key_of (entry_at self.now.lists.entries k)) }
@@ -63,11 +63,12 @@ impl<'a> Index<'a> {
         self.lists.entries[k].key == key
     }
 
-    // The number of the feature of this package and name.
-    pub(crate) fn find(&self, key: Key<'_>) -> Option<u32>
-        ensures { Finds self.now.lists.entries self.now.lists.count key.entry.owner key.entry.name.now result }
+    // The newest entry of a key that is no newer than one of its bucket, which comes first in the bucket's list.
+    fn search(&self, from: Option<u16>, key: Key<'_>) -> Option<u16>
+        requires { InBucket self.now.lists.entries self.now.lists.count key.owner key.name.now from }
+        ensures { result ≡ newest_of self.now.lists.entries key.entry.owner key.entry.name.now (past from) }
     {
-        let mut at = self.lists.heads[bucket(key)];
+        let mut at = from;
         while let Some(k) = at {
             if self.is_at(k as usize, key) {
                 return Some(k);
@@ -77,21 +78,36 @@ impl<'a> Index<'a> {
         None
     }
 
-    // Whether there is a feature of this package and name.
+    // The newest entry of a key.
+    pub(crate) fn find(&self, key: Key<'_>) -> Option<u16>
+        ensures { result ≡ newest_of self.now.lists.entries key.entry.owner key.entry.name.now self.now.lists.count }
+    {
+        self.search(self.lists.heads[bucket(key)], key)
+    }
+
+    // The newest entry of a key that is older than one of that key.
+    pub(crate) fn older(&self, k: u16, key: Key<'_>) -> Option<u16>
+        requires { IsEntry self.now.lists.entries self.now.lists.count key.owner key.name.now k }
+        ensures { result ≡ newest_of self.now.lists.entries key.entry.owner key.entry.name.now k }
+    {
+        self.search(self.lists.entries[k as usize].next, key)
+    }
+
+    // Whether there is an entry of this package and name.
     pub(crate) fn has(&self, key: Key<'_>) -> bool
         ensures { result ≡ has_key key.entry.owner key.entry.name.now (keys_of self.now.lists.entries self.now.lists.count) }
     {
         self.find(key).is_some()
     }
 
-    // Whether there is no room for a feature more.
+    // Whether there is no room for an entry more.
     pub(crate) fn is_full(&self) -> bool
         ensures { result ≡ nat_le most_features (length (keys_of self.now.lists.entries self.now.lists.count)) }
     {
-        self.lists.count as usize >= MAX_FEATURES
+        usize::from(self.lists.count) >= MAX_FEATURES
     }
 
-    // One feature more.
+    // One entry more.
     pub(crate) fn add(&mut self, key: Key<'a>)
         requires room { self.old.lists.count < 16384 }
         ensures file { self.new.file.now ≡ self.old.file.now }

@@ -94,7 +94,7 @@ impl<'a> Filled<'a> {
     {
         let base = self.directory.counts.packages + self.directory.counts.dependencies;
         let k = self.directory.index.find(Key { owner, name })?;
-        Some(base + k)
+        Some(base + u32::from(k))
     }
 
     // Whether a package has a feature of this name.

@@ -176,7 +176,7 @@ pub(crate) fn first_reading<'a>(index: &mut Index<'a>) -> Result<Counts, FileFau
                 read: start + (found.frame.body.len() + 6),
                 packages: stand.packages,
                 dependencies: stand.dependencies,
-                features: index.lists.count,
+                features: u32::from(index.lists.count),
             });
         }
         stand = noted(index, stand, found);

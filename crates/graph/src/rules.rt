@@ -1,14 +1,11 @@
 // The rows of dependencies and of feature values.
 ghost use Rattle.std.specs.Prelude.{◌≡◌};
 ghost use Rattle.std.specs.List.{flat_map};
-ghost use Rattle.std.specs.Str.{bytes_eq};
 ghost use Rattle.records.specs.Bodies.{dependency_view, texts, form_in, forms, bytes_in};
-ghost use Rattle.records.specs.Graphs.{Dependency as Depends, dependency};
-ghost use Rattle.graph.specs.Laying.{its, ReadsAs, row_to, row_found, ask_rows, dependency_rows, switch_rows, weak_rows, one_named, each_named, value_rows};
+ghost use Rattle.graph.specs.Laying.{its, row_to, row_found, ask_rows, dependency_rows, switch_rows, weak_rows, each_named, value_rows};
 ghost use Rattle.graph.specs.Places.{proc_of};
 ghost use Rattle.graph.specs.Sheets.{lays};
 
-use crate::contents::Owned;
 use crate::filled::Filled;
 use crate::rows::Row;
 use crate::sheets::Sheet;
@@ -147,27 +144,13 @@ impl<'a> Filled<'a> {
         }
     }
 
-    // The rows of a value for the dependency at a place, whose number is `item`, if it has the value's name.
-    fn named_row(&self, sheet: &mut Sheet, value: Named, item: u32, start: u32)
-        ensures { (d : Depends) → ReadsAs self.now start (dependency d) → sheet.new ≡ lays sheet.old (one_named (its self.now) value.entry.from value.entry.name.now value.entry.switches (bytes_in value.entry.feature) item d) }
-    {
-        match self.part_at(start) {
-            Some(Owned::Dependency(d)) if d.name.bytes == value.name => {
-                self.switch_row(sheet, value, item, d);
-                self.weak_row(sheet, value, item, d);
-            }
-            _ => {}
-        }
-    }
-
-    // The rows of a value for each dependency of a package that has the value's name. Only the call differs from that of
-    // `rows_of_parts`, so a closure for it would be longer. A cast of `k` is right, as there are at most 36,864 items.
+    // The rows of a value for each dependency of a package that has the value's name.
     fn named_rows(&self, sheet: &mut Sheet, p: u32, value: Named)
         ensures { sheet.new ≡ lays sheet.old (each_named (its self.now) p value.entry.from value.entry.name.now value.entry.switches (bytes_in value.entry.feature)) }
     {
-        let table = self.dependencies(p);
-        for (k, start) in table.starts.iter().enumerate() {
-            self.named_row(sheet, value, table.first + k as u32, *start);
+        for d in self.named(p, value.name) {
+            self.switch_row(sheet, value, d.item, d.dependency);
+            self.weak_row(sheet, value, d.item, d.dependency);
         }
     }
 

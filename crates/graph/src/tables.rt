@@ -36,12 +36,13 @@ pub(crate) struct Starts<'a> {
 }
 
 // Where everything stands in a graph file that the first reading has accepted: the packages, the starts of the
-// dependency records, those of the feature records, both in file order with their owners, and the features by
-// package and name. The memory is fixed, since the library allocates nothing; how far each table is filled, `counts`
+// dependency records, those of the feature records, both in file order with their owners, the features by package and
+// name, and so the dependencies, the last one first, since a bucket's list then has them in file order. The memory is fixed, since the library allocates nothing; how far each table is filled, `counts`
 // says. The starts are there twice, since one look asks by package and the other goes in file order.
 #[derive(Drop)]
 pub(crate) struct Directory<'a> {
     pub index: Index<'a>,
+    pub named: Index<'a>,
     pub counts: Counts,
     pub packages: [PackageEntry; MAX_PACKAGES],
     pub dependencies: [u32; MAX_DEPENDENCIES],

@@ -7,7 +7,7 @@ use Rattle.graph.specs.Directory.{ReadAs}
 use Rattle.graph.specs.Opening.{leaving, open_graph}
 use Rattle.graph.specs.Reading.{first_reading}
 use Rattle.graph.proofs.Keyed.{bytes_fit}
-use Rattle.graph.proofs.Opens.{first-refused, told, second-refused, both-accept, opened-law, opened-rules}
+use Rattle.graph.proofs.Opens.{first-refused, told, named, second-refused, both-accept, opened-law, opened-rules}
 use Rattle.graph.proofs.opening.open_graph.Goals as goal
 
 -- what `?` hands on is the error of the call: the library's lemma says so in two halves, and a lemma of one would only put them together
@@ -22,7 +22,10 @@ returns-in_err-read c =
     record { opened = e; law = opened-law file words (bytes_fit file c.type_inv.file) r words e; rules = opened-rules file }
 
 pub invariant_of-filled : goal.invariant_of-filled
-invariant_of-filled c = record { told = merely (told c.new-directory.result.index.file.now c.args.words.now c.read.new.self c.in_ok-read.ensures) }
+invariant_of-filled c = record {
+  told = merely (told c.new-directory.result.index.file.now c.args.words.now c.read.new.self c.in_ok-read.ensures);
+  named = merely (named c.new-directory.result.index.file.now c.args.words.now c.read.new.self c.in_ok-read.ensures);
+}
 
 pub returns-in_err-second_reading : goal.returns-in_err-second_reading
 returns-in_err-second_reading c =

@@ -6,6 +6,7 @@ use Rattle.graph.proofs.tables.Directory.fill.Given as goal
 abbrev pub invariant-loop-frame : goal.invariant-loop-frame
 invariant-loop-frame l =
     (l.self.index ≡ l.initial.self.index)
+    × (l.self.named ≡ l.initial.self.named)
     × (l.self.counts ≡ l.initial.self.counts)
     × Midway l.file (tables_of l.self) l.so_far.read l.so_far.packages l.so_far.dependencies l.so_far.features
 

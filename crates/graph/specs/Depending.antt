@@ -1,0 +1,37 @@
+-- All dependencies of a graph, and the index of them.
+use Rattle.std.specs.Prelude.{◌≡◌, ℕ, ◌+◌, List, [], ◌∷◌, ◌++◌, map, reverse}
+use Rattle.records.specs.Graphs.{Dependency, Part, dependency, feature, Graph}
+use Rattle.graph.specs.declared.index.Index.{Index}
+use Rattle.graph.specs.Keys.{Key}
+use Rattle.graph.specs.Law.{dependencies_in}
+use Rattle.graph.specs.Second.{Placed}
+use Rattle.graph.specs.Views.{keys}
+
+-- a dependency, and the number of its package
+pub record Depending : Type 0 where
+  pub owner : ℕ
+  pub dependency : Dependency
+
+abbrev pub owned : ℕ → Dependency → Depending
+owned p d = record { owner = p; dependency = d }
+
+-- those of packages numbered from p on, in file order
+abbrev pub depending : ℕ → Graph → List Depending
+depending p [] = []
+depending p (a ∷ g) = map (owned p) (dependencies_in a.parts) ++ depending (p + 1) g
+
+abbrev pub dependency_key : Depending → Key
+dependency_key x = record { owner = x.owner; name = x.dependency.name }
+
+-- the index has all dependencies by package and name, the last one first
+abbrev pub Named : Index → Graph → Type 0
+Named index g = keys index ≡ reverse (map dependency_key (depending 0 g))
+
+-- the dependencies among some records by package and name, the last one first
+abbrev pub key_if : ℕ → Part → List Key
+key_if p (dependency d) = dependency_key (owned p d) ∷ []
+key_if p (feature f) = []
+
+abbrev pub last_keys : List Placed → List Key
+last_keys [] = []
+last_keys (x ∷ xs) = last_keys xs ++ key_if x.owner x.part

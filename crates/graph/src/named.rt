@@ -1,0 +1,61 @@
+// Finding the dependencies of a package by name.
+ghost use Rattle.std.specs.Prelude.{◌≡◌, ℕ, ◌+◌, ◌<◌, length, slice_index_or, Some};
+ghost use Rattle.graph.specs.Depending.{depending};
+ghost use Rattle.graph.specs.Directory.{no_depending};
+ghost use Rattle.graph.specs.Laying.{its};
+ghost use Rattle.graph.specs.Namesakes.{namesakes, left, namesake_view};
+ghost use Rattle.graph.specs.Rules.{on_some};
+
+use crate::contents::Owned;
+use crate::filled::Filled;
+use crate::index::Key;
+use crate::namesakes::{Namesake, Namesakes};
+
+impl<'a> Filled<'a> {
+    // Dependency `k` of the graph.
+    fn dependency(&self, k: u32) -> Option<Namesake<'a>>
+        requires { k < length (depending 0 (its self.now)) }
+        ensures { on_some namesake_view result ≡ Some (length (its self.now) + k, (slice_index_or (depending 0 (its self.now)) k no_depending).dependency) }
+    {
+        let start = self.directory.dependencies[k as usize];
+        match self.part_at(start)? {
+            Owned::Dependency(dependency) => Some(Namesake {
+                item: self.directory.counts.packages + k,
+                dependency,
+            }),
+            Owned::Feature(_) => None,
+        }
+    }
+
+    // The dependencies of a package that have a name.
+    pub(crate) fn named<'b>(&self, owner: u32, name: &'b [u8]) -> Namesakes<'a, 'b>
+        ensures { left result ≡ namesakes (its self.now) owner name.now }
+    {
+        let key = Key { owner, name };
+        Namesakes {
+            filled: *self,
+            key,
+            at: self.directory.named.find(key),
+        }
+    }
+}
+
+impl<'a, 'b> Iterator for Namesakes<'a, 'b> {
+    ghost use Rattle.std.specs.Iterator.{YieldsFirstBy, item_count};
+    ghost use Rattle.graph.specs.Namesakes.{left, namesake_view};
+
+    type Item = Namesake<'a>;
+
+    ghost next_gives = { YieldsFirstBy namesake_view left };
+
+    ghost remaining = { item_count left };
+
+    // The next dependency. The index has the last one of the file first.
+    fn next(&mut self) -> Option<Namesake<'a>> {
+        let k = self.at?;
+        let directory = self.filled.directory;
+        self.at = directory.named.older(k, self.key);
+        self.filled
+            .dependency(directory.counts.dependencies - 1 - u32::from(k))
+    }
+}

@@ -1,0 +1,23 @@
+// The dependencies of a package that have one name.
+ghost use Rattle.std.specs.Option.{ForSome};
+ghost use Rattle.graph.specs.Keys.{IsEntry};
+
+use crate::filled::Filled;
+use crate::index::Key;
+use records::bodies::Dependency;
+
+// A dependency, and its local number.
+#[derive(Clone, Copy)]
+pub(crate) struct Namesake<'a> {
+    pub item: u32,
+    pub dependency: Dependency<'a>,
+}
+
+// Those of a package and name in file order, from the one that `at` is the number of, in the index of dependencies.
+#[derive(Clone, Copy)]
+pub(crate) struct Namesakes<'a, 'b> {
+    pub filled: Filled<'a>,
+    pub key: Key<'b>,
+    pub at: Option<u16>,
+    ghost keyed: { ForSome at (IsEntry filled.directory.now.named.lists.entries filled.directory.now.named.lists.count key.owner key.name.now) },
+}
