@@ -6,7 +6,6 @@ mod compared;
 mod damaged;
 #[cfg(test)]
 mod damages;
-mod dice;
 #[cfg(test)]
 mod edges;
 mod encode;

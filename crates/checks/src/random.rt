@@ -1,11 +1,11 @@
 // Random graphs as files.
-use crate::dice::Dice;
 use crate::encode::{
     EdgeHead, dependency_record, end_record, feature_record, header, package_record,
 };
 use crate::example::put;
 use crate::kinds::EdgeKind;
 use crate::sketches::{Care, Drawn, Sketch, name_of};
+use dice::Dice;
 use std::alloc::{AllocError, Global};
 
 // A value in one of the four forms; a plain one where there is nothing to link to.

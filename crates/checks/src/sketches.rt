@@ -1,5 +1,5 @@
 // Random graphs: which packages, dependencies and features there are, and what they refer to.
-use crate::dice::Dice;
+use dice::Dice;
 use std::alloc::{AllocError, Global};
 
 const NAMES: [&[u8]; 7] = [

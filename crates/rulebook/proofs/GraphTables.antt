@@ -27,21 +27,21 @@ use Rattle.rulebook.proofs.ItemPlaces.{number-low, number_same, number-all, depe
 use Rattle.rulebook.proofs.RowWords.{row_back, rows-length}
 
 -- P holds of what there is
-abbrev Held : {A : Type 0} → (A → Type 0) → Option A → Type 0
+abbrev pub Held : {A : Type 0} → (A → Type 0) → Option A → Type 0
 Held P None = Unit {0}
 Held P (Some x) = P x
 
 -- a rule of a graph names items of the graph
-record Sane (g : Graph) (ρ : Rule) : Type 0 where
-  from : Has g ρ.from
-  mate : Held (Has g) ρ.mate
-  to : Has g ρ.to
+pub record Sane (g : Graph) (ρ : Rule) : Type 0 where
+  pub from : Has g ρ.from
+  pub mate : Held (Has g) ρ.mate
+  pub to : Has g ρ.to
 
 named-has : (g : Graph) (p k : ℕ) (n : List ℕ) → NamedAt g p k n → Has g (feat p k)
 named-has g p k n h = h.1.0
 
 module _ (g : Graph) (resolved : Resolved g) where
-  sane : (ρ : Rule) → Stands g ρ → Sane g ρ
+  pub sane : (ρ : Rule) → Stands g ρ → Sane g ρ
   sane ρ (needs {p} {k} {d} at o) = record { from = dependency-owner g p k at.0; mate = tt; to = at.0 }
   sane ρ (builds {p} {k} {d} at) = record { from = at.0; mate = tt; to = resolved.ends p k d at }
   sane ρ (defaults {p} {k} {j} {d} at o n) = record { from = at.0; mate = tt; to = n.1.0 }
