@@ -4,6 +4,9 @@ ghost use Rattle.demo.specs.Lines.{premise, place};
 
 use graph::refusals::Refusal;
 use graph::rows::{Opened, mate_of};
+use rulebook::entries::{Entry, Found};
+use session::calls::Reason;
+use session::trail::TrailRecord;
 use std::fmt;
 
 // What an opened graph has.
@@ -83,6 +86,29 @@ impl fmt::Display for RowLine {
     }
 }
 
+// What a unit watches at a row.
+#[derive(Clone, Copy)]
+pub struct WatchLine {
+    pub unit: u32,
+    pub found: Found,
+}
+
+impl fmt::Display for WatchLine {
+    fn fmt<W: fmt::Write>(&self, f: &mut fmt::Formatter<W>) -> fmt::Result {
+        let WatchLine { unit, found } = *self;
+        let Found { row, entry } = found;
+        let Entry {
+            partner,
+            conclusion,
+        } = entry;
+        write!(f, "unit {unit} watches row {row}: ")?;
+        if let Some(partner) = partner {
+            write!(f, "with {partner}, ")?;
+        }
+        write!(f, "conclusion {conclusion}")
+    }
+}
+
 // Why a file is refused, and where.
 #[derive(Clone, Copy)]
 pub struct RefusalLine {
@@ -109,5 +135,77 @@ impl fmt::Display for RefusalLine {
         let Refusal { number, record, .. } = self.refusal;
         let byte = self.byte();
         write!(f, "refused {number} record {record} byte {byte}")
+    }
+}
+
+// What made an item active.
+#[derive(Clone, Copy)]
+pub struct Causes {
+    pub first: Option<u32>,
+    pub second: Option<u32>,
+}
+
+impl fmt::Display for Causes {
+    fn fmt<W: fmt::Write>(&self, f: &mut fmt::Formatter<W>) -> fmt::Result {
+        match (self.first, self.second) {
+            (None, _) => write!(f, "requested"),
+            (Some(first), None) => write!(f, "because of {first}"),
+            (Some(first), Some(second)) => write!(f, "because of {first} and {second}"),
+        }
+    }
+}
+
+// A trail record, with its number.
+#[derive(Clone, Copy)]
+pub struct TrailLine {
+    pub number: usize,
+    pub found: TrailRecord,
+}
+
+impl fmt::Display for TrailLine {
+    fn fmt<W: fmt::Write>(&self, f: &mut fmt::Formatter<W>) -> fmt::Result {
+        let TrailLine { number, found } = *self;
+        let TrailRecord {
+            item,
+            first,
+            second,
+        } = found;
+        let causes = Causes { first, second };
+        write!(f, "trail {number}: item {item}, {causes}")
+    }
+}
+
+// How a session was settled.
+#[derive(Clone, Copy)]
+pub struct SettledLine {
+    pub steps: u64,
+}
+
+impl fmt::Display for SettledLine {
+    fn fmt<W: fmt::Write>(&self, f: &mut fmt::Formatter<W>) -> fmt::Result {
+        let steps = self.steps;
+        write!(f, "settled after {steps} steps: nothing pending")
+    }
+}
+
+// What was asked of an item afterwards: whether it is active, and why.
+#[derive(Clone, Copy)]
+pub struct CheckLine {
+    pub item: u32,
+    pub active: bool,
+    pub reason: Reason,
+}
+
+impl fmt::Display for CheckLine {
+    fn fmt<W: fmt::Write>(&self, f: &mut fmt::Formatter<W>) -> fmt::Result {
+        let CheckLine {
+            item,
+            active,
+            reason,
+        } = *self;
+        let Reason { first, second } = reason;
+        let causes = Causes { first, second };
+        let answer = if active { "active" } else { "inactive" };
+        write!(f, "asked: item {item} is {answer}, {causes}")
     }
 }

@@ -1,11 +1,13 @@
 -- The calls made on a new session by one rulebook, and what follows from them.
 use Rattle.std.specs.Prelude.{ℕ, zero, suc, ◌+◌, Bool, false, cond, not, List, [], ◌∷◌, ◌++◌, fold}
 use Rattle.rulebook.specs.Tables.{Table}
+use Rattle.session.specs.declared.calls.Call as code
+use Rattle.session.specs.declared.calls.Call.TheVariants as variant
 use Rattle.session.specs.declared.calls.Outcome.{Outcome}
 use Rattle.session.specs.declared.calls.Outcome.TheVariants.{Settled, Pending}
 use Rattle.session.specs.declared.calls.Answer.{Answer}
 use Rattle.session.specs.declared.calls.Answer.TheVariants as answer
-use Rattle.session.specs.States.{State, empty, requested, all_below, settled, Run, outcome_of, fits, request_answer, settle_answer, active_answer, reason_answer}
+use Rattle.session.specs.States.{State, empty, requested, all_below, settled, Run, outcome_of, fits, request_answer, request_leaves, settle_answer, settle_leaves, active_answer, reason_answer}
 
 pub data Call : Type 0 where
   request : List ℕ → Call
@@ -13,12 +15,33 @@ pub data Call : Type 0 where
   active : ℕ → Call
   reason : ℕ → Call
 
--- what a call answers in a state
+-- a call of the code
+abbrev pub call_view : code.Call → Call
+call_view (variant.Request is) = request is.now
+call_view (variant.Settle b) = settle b
+call_view (variant.Active i) = active i
+call_view (variant.Reason i) = reason i
+
+-- what a call answers in a state, and what it leaves
 abbrev pub answered : Table → State → Call → Answer
 answered t s (request is) = answer.Requested (request_answer s is)
 answered t s (settle b) = answer.Settled (settle_answer t b s)
 answered t s (active i) = answer.Active (active_answer s i)
 answered t s (reason i) = answer.Reason (reason_answer s i)
+
+abbrev pub left_by : Table → State → Call → State
+left_by t s (request is) = request_leaves s is
+left_by t s (settle b) = settle_leaves t b s
+left_by t s (active i) = s
+left_by t s (reason i) = s
+
+-- what some calls leave, and what each of them answers, from a state on
+abbrev pub left_by_all : Table → State → List Call → State
+left_by_all t s calls = fold (left_by t) s calls
+
+abbrev pub answers_from : Table → State → List Call → List Answer
+answers_from t s [] = []
+answers_from t s (c ∷ cs) = answered t s c ∷ answers_from t (left_by t s c) cs
 
 -- a session with its past: the items of the accepted requests, the steps that were reported, and whether it is settled
 pub record History : Type 0 where
@@ -52,11 +75,6 @@ called t h (reason i) = h
 abbrev pub history : Table → ℕ → List Call → History
 history t n calls = fold (called t) (begun n) calls
 
--- what each of some calls answers, from a history on
-abbrev pub answers_from : Table → History → List Call → List Answer
-answers_from t h [] = []
-answers_from t h (c ∷ cs) = answered t h.state c ∷ answers_from t (called t h c) cs
-
 -- A caller that chooses each call in view of the earlier answers, the newest last.
 abbrev pub Chooser : Type 0
 Chooser = List Answer → Call
@@ -64,4 +82,4 @@ Chooser = List Answer → Call
 -- the first k calls that it makes
 abbrev pub chosen : Table → ℕ → Chooser → ℕ → List Call
 chosen t n choose zero = []
-chosen t n choose (suc k) = chosen t n choose k ++ choose (answers_from t (begun n) (chosen t n choose k)) ∷ []
+chosen t n choose (suc k) = chosen t n choose k ++ choose (answers_from t (empty n) (chosen t n choose k)) ∷ []

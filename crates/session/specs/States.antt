@@ -71,6 +71,14 @@ concluded s e =
 abbrev pub taken : State → Found → State
 taken s f = worked (concluded s f.entry) s.place (f.row + 1)
 
+-- the item at the worked place, if a trail item is left
+abbrev pub item_of : List TrailRecord → Option ℕ
+item_of [] = None
+item_of (r ∷ rs) = Some r.item
+
+abbrev pub worked_item : State → Option ℕ
+worked_item s = item_of (drop s.place s.trail)
+
 -- what comes next: no trail item is left, or an entry is due
 pub data Next : Type 0 where
   rest : State → Next

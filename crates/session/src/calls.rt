@@ -3,7 +3,7 @@
 // Why a call is refused.
 #[derive(Clone, Copy, PartialEq, Eq, Debug)]
 pub enum SessionFault {
-    // fewer trail places or marks than items
+    // fewer trail places or marks than items, or fewer places for answers than calls
     Memory,
     // an item or count out of range, or a rulebook of another item count
     Item,

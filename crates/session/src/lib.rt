@@ -2,4 +2,12 @@
 #![tactic(auto)]
 
 pub mod calls;
+mod joining;
+pub mod making;
+pub mod opening;
+pub mod questions;
+pub mod refusals;
+pub mod requests;
+pub mod session;
+pub mod settling;
 pub mod trail;

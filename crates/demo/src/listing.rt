@@ -1,0 +1,81 @@
+// What is printed of a graph and of a session on it.
+use crate::lines::{Counts, Mate, RefusalLine, RowLine, SettledLine, TrailLine, WatchLine};
+use crate::opened::OpenedGraph;
+use graph::refusals::Refusal;
+use graph::rows::WIDTH;
+use policy::host_split::HostSplit;
+use rulebook::book::Rulebook;
+use rulebook::graph_book::GraphBook;
+use session::trail::TrailRecord;
+use std::io::Write;
+
+// Prints the counts of a graph.
+pub fn print_counts(out: &mut impl Write, graph: &OpenedGraph) -> anyhow::Result<()> {
+    let counts = Counts {
+        opened: graph.counts,
+    };
+    writeln!(out, "{counts}")?;
+    Ok(())
+}
+
+// Prints the rule rows of a graph, each with its number.
+fn print_rows(out: &mut impl Write, graph: &OpenedGraph) -> anyhow::Result<()> {
+    let (rows, _) = graph.rows().as_chunks::<WIDTH>();
+    for (number, [from, with, to, lane, cross]) in rows.iter().enumerate() {
+        let line = RowLine {
+            number,
+            from: *from,
+            mate: Mate::from(*with),
+            to: *to,
+            lane: *lane,
+            cross: *cross,
+        };
+        writeln!(out, "{line}")?;
+    }
+    Ok(())
+}
+
+// Prints what a unit watches, in row order.
+fn print_watched<B: Rulebook>(out: &mut impl Write, book: &B, unit: u32) -> anyhow::Result<()> {
+    let mut row = 0;
+    while let Some(found) = book.seek(unit, row) {
+        let line = WatchLine { unit, found };
+        writeln!(out, "{line}")?;
+        row = found.row + 1;
+    }
+    Ok(())
+}
+
+// Prints what the unit of package 0 on the target watches under host-split. It is item 0; a graph without packages has
+// no items.
+fn print_first_unit(out: &mut impl Write, graph: &OpenedGraph) -> anyhow::Result<()> {
+    let book = GraphBook::new(graph.words.as_slice(), &HostSplit);
+    print_watched(out, &book, 0)
+}
+
+// Prints the rows of a graph and what its first unit watches.
+pub fn print_rules(out: &mut impl Write, graph: &OpenedGraph) -> anyhow::Result<()> {
+    print_rows(out, graph)?;
+    print_first_unit(out, graph)
+}
+
+// Prints why a file or a call is refused, and where.
+pub fn print_refusal(out: &mut impl Write, refusal: Refusal) -> anyhow::Result<()> {
+    let line = RefusalLine { refusal };
+    writeln!(out, "{line}")?;
+    Ok(())
+}
+
+// Prints the records of a trail, each with its number, and how it was settled.
+pub fn print_trail(out: &mut impl Write, trail: &[TrailRecord], steps: u64) -> anyhow::Result<()> {
+    for (number, found) in trail.iter().enumerate() {
+        let line = TrailLine {
+            number,
+            found: *found,
+        };
+        writeln!(out, "{line}")?;
+    }
+    let line = SettledLine { steps };
+    writeln!(out, "{line}")?;
+    Ok(())
+}

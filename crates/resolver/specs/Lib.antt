@@ -1,0 +1,5 @@
+pub mod Parts
+pub mod PartLaw
+pub mod PartExamples
+pub mod Law
+pub mod WorkedExamples

@@ -1,0 +1,97 @@
+-- The worked examples: what is so for the example graph, for feature strings, and for sessions by the example's words.
+use Rattle.std.specs.Prelude.{◌≡◌, ℕ, true, List, [], ◌∷◌, Some, None, Ok, Err}
+use Rattle.text.specs.Examples as text
+use Rattle.graph.specs.Examples as graph
+use Rattle.graph.specs.Examples.{example_words}
+use Rattle.policy.specs.Answers.{host_split}
+use Rattle.rulebook.specs.Tables.{Table}
+use Rattle.rulebook.specs.GraphTable.{graph_table}
+use Rattle.session.specs.declared.trail.TrailRecord.{TrailRecord}
+use Rattle.session.specs.declared.calls.SessionFault.TheVariants.{Item}
+use Rattle.session.specs.declared.calls.Outcome.TheVariants.{Settled, Pending}
+use Rattle.session.specs.declared.calls.Answer.{Answer}
+use Rattle.session.specs.declared.calls.Answer.TheVariants as answer
+use Rattle.session.specs.States.{State, opened, requested, settled, request_answer, settle_answer}
+use Rattle.session.specs.Histories.{Call, request, settle, answers_from, History, history}
+use Rattle.session.specs.SessionLaw.{sum_active}
+use Rattle.resolver.specs.PartExamples.{PartExamples}
+
+-- the rules of the example's words where a build dependency leads to the host
+abbrev pub example_table : Table
+example_table = graph_table host_split example_words
+
+-- a new session of 20 items, in memory for as many
+abbrev pub new_session : State
+new_session = opened 20 20 20
+
+-- app, and the feature default of app, on the target
+abbrev pub example_items : List ℕ
+example_items = 0 ∷ 6 ∷ []
+
+abbrev pub example_asked : State
+example_asked = requested example_items new_session
+
+-- trail records: an item without causes, with one, and with two
+abbrev pub asked : ℕ → TrailRecord
+asked i = record { item = i; first = None; second = None }
+
+abbrev pub caused : ℕ → ℕ → TrailRecord
+caused i k = record { item = i; first = Some k; second = None }
+
+abbrev pub joined : ℕ → ℕ → ℕ → TrailRecord
+joined i k j = record { item = i; first = Some k; second = Some j }
+
+-- what becomes active, in order; items from 10 on are on the host
+abbrev pub example_trail : List TrailRecord
+example_trail =
+    asked 0
+    ∷ asked 6
+    ∷ caused 4 0
+    ∷ caused 7 1
+    ∷ caused 12 2
+    ∷ caused 3 3
+    ∷ joined 8 3 5
+    ∷ caused 15 4
+    ∷ caused 1 5
+    ∷ caused 11 7
+    ∷ caused 19 7
+    ∷ caused 18 10
+    ∷ []
+
+-- how many of the items below n are active
+abbrev pub active_count : List TrailRecord → ℕ → ℕ
+active_count = sum_active (λ i. 1)
+
+-- the request, and settling within 3, 7 and 1 steps, on a new session
+abbrev pub example_calls : List Call
+example_calls = request example_items ∷ settle 3 ∷ settle 7 ∷ settle 1 ∷ []
+
+abbrev pub example_answers : List Answer
+example_answers = answer.Requested (Ok tt) ∷ answer.Settled (Ok Pending) ∷ answer.Settled (Ok Pending) ∷ answer.Settled (Ok (Settled 1)) ∷ []
+
+abbrev pub example_history : History
+example_history = history example_table 20 example_calls
+
+pub record WorkedExamples : Type 0 where
+  -- below sessions: graph files, feature strings, closed target parts
+  pub files : graph.Examples
+  pub strings : text.Examples
+  pub parts : PartExamples
+  -- the rules on both sides
+  pub items : example_table.items ≡ 20
+  pub rows : example_table.rows ≡ 10
+  -- 11 steps leave nothing pending; 3 do not, and 10 do not
+  pub accepted : request_answer new_session example_items ≡ Ok tt
+  pub settles : settle_answer example_table 11 example_asked ≡ Ok (Settled 11)
+  pub trail : (settled example_table 11 example_asked).state.trail ≡ example_trail
+  pub soon : settle_answer example_table 3 example_asked ≡ Ok Pending
+  pub active : active_count (settled example_table 3 example_asked).state.trail 20 ≡ 5
+  pub nearly : settle_answer example_table 10 example_asked ≡ Ok Pending
+  -- so too in parts
+  pub answers : answers_from example_table new_session example_calls ≡ example_answers
+  pub whole : example_history.state.trail ≡ example_trail
+  pub steps : example_history.steps ≡ 11
+  pub done : example_history.settled ≡ true
+  -- a request beyond the items is refused, one of the last item is not
+  pub beyond : request_answer new_session (20 ∷ []) ≡ Err Item
+  pub last : request_answer new_session (19 ∷ []) ≡ Ok tt

@@ -1,0 +1,162 @@
+// The worked examples, run by the code.
+ghost use Rattle.std.specs.Prelude.{◌≡◌, true, Ok};
+ghost use Rattle.session.specs.declared.calls.Outcome.TheVariants.{Settled, Pending};
+ghost use Rattle.session.specs.Held.{trail_of, state};
+ghost use Rattle.session.specs.States.{settled};
+ghost use Rattle.resolver.specs.WorkedExamples.{active_count, example_table, new_session, example_asked, WorkedExamples};
+
+use graph::examples::open_example;
+use graph::rows::Opened;
+use policy::host_split::HostSplit;
+use rulebook::book::Rulebook;
+use rulebook::graph_book::GraphBook;
+use session::calls::{Outcome, Reason, SessionFault};
+use session::session::Session;
+use session::trail::TrailRecord;
+
+// The word that means none.
+const NONE: u32 = u32::MAX;
+
+// The words of the example graph: four counts, then ten rows.
+const WORDS: [u32; 54] = [
+    3, 3, 4, 10, 3, NONE, 1, 0, 1, 0, NONE, 4, 1, 0, 4, NONE, 2, 1, 1, 6, NONE, 7, 6, 0, 7, NONE,
+    3, 0, 0, 7, 3, 8, 0, 1, 9, NONE, 8, 6, 0, 2, NONE, 5, 0, 0, 5, NONE, 1, 0, 1, 5, NONE, 9, 0, 1,
+];
+
+// What opening its file answers.
+const OPENED: Opened = Opened {
+    read: 173,
+    packages: 3,
+    dependencies: 3,
+    features: 4,
+    rows: 10,
+};
+
+// How many items there are, on both sides.
+const ITEMS: u32 = 20;
+
+// What the calls of the example answer: a request, settling within 3, 7 and 1 steps, and how many items are active after
+// the first 3.
+#[derive(Clone, Copy, PartialEq, Eq)]
+struct Course {
+    requested: Result<(), SessionFault>,
+    soon: Result<Outcome, SessionFault>,
+    count: u32,
+    nearly: Result<Outcome, SessionFault>,
+    settled: Result<Outcome, SessionFault>,
+}
+
+// What the calls of the example are to answer.
+const COURSE: Course = Course {
+    requested: Ok(()),
+    soon: Ok(Outcome::Pending),
+    count: 5,
+    nearly: Ok(Outcome::Pending),
+    settled: Ok(Outcome::Settled(1)),
+};
+
+// A trail place that is not written yet.
+const UNUSED: TrailRecord = TrailRecord {
+    item: 0,
+    first: None,
+    second: None,
+};
+
+// What made an item active: these trail numbers.
+fn reason(first: Option<u32>, second: Option<u32>) -> Reason
+    ensures { result ≡ record { first = first; second = second } }
+{
+    Reason { first, second }
+}
+
+// How many items are active.
+fn active_count(session: &Session<'_>) -> u32
+    requires { session.now.items ≡ 20 }
+    ensures { result ≡ active_count (trail_of session.now) 20 }
+{
+    let mut count = 0;
+    for item in 0..ITEMS {
+        if session.active(item) == Ok(true) {
+            count += 1;
+        }
+    }
+    count
+}
+
+// Makes the calls of the example on a new session.
+fn run<B: Rulebook>(book: &B, session: &mut Session<'_>) -> Course
+    requires book { B.Rulebook.table book.now ≡ example_table }
+    requires session { state session.old ≡ new_session }
+    ensures answers { result ≡ record { requested = Ok tt; soon = Ok Pending; count = 5; nearly = Ok Pending; settled = Ok (Settled 1) } }
+    ensures state { state session.new ≡ (settled example_table 11 example_asked).state }
+{
+    let requested = session.request(&[0, 6]);
+    let soon = session.settle(book, 3);
+    let count = active_count(session);
+    let nearly = session.settle(book, 7);
+    let settled = session.settle(book, 1);
+    Course {
+        requested,
+        soon,
+        count,
+        nearly,
+        settled,
+    }
+}
+
+// Whether the settled session tells what is active.
+fn tells_active(session: &Session<'_>) -> bool
+    requires { state session.now ≡ (settled example_table 11 example_asked).state }
+    ensures { result ≡ true }
+{
+    session.active(12) == Ok(true)
+        && session.active(2) == Ok(false)
+        && session.active(ITEMS) == Err(SessionFault::Item)
+}
+
+// Whether it tells what made items active: nothing, one item, or two.
+fn tells_reasons(session: &Session<'_>) -> bool
+    requires { state session.now ≡ (settled example_table 11 example_asked).state }
+    ensures { result ≡ true }
+{
+    session.reason(6) == Ok(reason(None, None))
+        && session.reason(18) == Ok(reason(Some(10), None))
+        && session.reason(8) == Ok(reason(Some(3), Some(5)))
+        && session.reason(2) == Err(SessionFault::Inactive)
+}
+
+// Whether the calls on a new session are answered so, and afterwards the questions.
+fn settles<B: Rulebook>(book: &B) -> bool
+    requires { B.Rulebook.table book.now ≡ example_table }
+    ensures { result ≡ true }
+{
+    let mut places = [UNUSED; ITEMS as usize];
+    let mut marks = [None; ITEMS as usize];
+    let mut session = Session::new(ITEMS, &mut places, &mut marks);
+    run(book, &mut session) == COURSE && tells_active(&session) && tells_reasons(&session)
+}
+
+// Whether a new session refuses an item beyond its own, and takes the last one.
+fn takes_only_its_own() -> bool
+    ensures { result ≡ true }
+{
+    let mut places = [UNUSED; ITEMS as usize];
+    let mut marks = [None; ITEMS as usize];
+    let mut session = Session::new(ITEMS, &mut places, &mut marks);
+    session.request(&[20]) == Err(SessionFault::Item) && session.request(&[19]) == Ok(())
+}
+
+// Runs the worked examples of all layers, and says whether all are answered as the table has them.
+pub fn worked_examples() -> bool
+    ensures answer { result ≡ true }
+    ensures table { WorkedExamples }
+{
+    let words = WORDS;
+    let book = GraphBook::new(&words[..], &HostSplit);
+    text::examples::worked_examples()
+        && open_example() == Ok(OPENED)
+        && book.items() == ITEMS
+        && book.rows() == 10
+        && settles(&book)
+        && takes_only_its_own()
+}

@@ -1,0 +1,15 @@
+pub mod Seeks
+pub mod Finding
+pub mod TrailEnds
+pub mod Joined
+pub mod Keeping
+pub mod Runs
+pub mod TrailFacts
+pub mod ActiveSums
+pub mod EntryCounts
+pub mod Derivations
+pub mod SettleKeeps
+pub mod Firing
+pub mod Invariant
+pub mod Kept
+pub mod LawHolds

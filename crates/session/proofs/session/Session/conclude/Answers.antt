@@ -1,0 +1,9 @@
+use Rattle.std.proofs.Common.{sym, subst}
+use Rattle.session.specs.Trails.{Older}
+use Rattle.session.proofs.Finding.{cause-older}
+use Rattle.session.proofs.session.Session.conclude.Goals as goal
+
+pub join-requires-clause-older : goal.join-requires-clause-older
+join-requires-clause-older c =
+    let s = c.args.self.now in
+    (c.requires.place, subst (Older s.trail.len) (sym c.cause_of-second.ensures) (cause-older s.trail.places.now s.trail.len s.held c.args.entry.partner))
