@@ -1,5 +1,5 @@
 // Settling a graph under host-split.
-ghost use Rattle.std.specs.Prelude.{◌≡◌, ◌≢◌, ℕ, ◌≤◌, ◌++◌, List, length, drop, IfOk};
+ghost use Rattle.std.specs.Prelude.{◌≡◌, ◌≢◌, ℕ, ◌≤◌, ◌<◌, ◌++◌, List, length, drop, IfOk, IfErr};
 ghost use Rattle.boundary.specs.Numbers.{items_of, answer_of, state_of, settled_number, graph_settled};
 ghost use Rattle.session.specs.Held.{state, trail_of};
 
@@ -40,7 +40,8 @@ fn write_items(trail: &[TrailRecord], active: &mut [u32])
 
 // Writes the active items, if all is settled and there is room for them.
 fn tell(session: &Session<'_>, answer: Result<Outcome, SessionFault>, active: &mut [u32]) -> u64
-    ensures { ◌≡◌ {A = ℕ × List ℕ} (result, active.new) (settled_number active.old answer (trail_of session.now)) }
+    ensures number { ◌≡◌ {A = ℕ × List ℕ} (result, active.new) (settled_number active.old answer (trail_of session.now)) }
+    ensures below { result < 18446744073709551615 }
 {
     let trail = session.trail();
     match answer {
@@ -60,7 +61,9 @@ fn settle_graph(
     budget: u32,
     active: &mut [u32],
 ) -> Result<u64, AllocError>
-    ensures { IfOk result (λ n. ◌≡◌ {A = ℕ × List ℕ} (n, active.new) (graph_settled words.now requests.now budget active.old)) }
+    ensures number { IfOk result (λ n. ◌≡◌ {A = ℕ × List ℕ} (n, active.new) (graph_settled words.now requests.now budget active.old)) }
+    ensures below { IfOk result (λ n. n < 18446744073709551615) }
+    ensures no_memory { IfErr result (λ e. active.new ≡ active.old) }
 {
     let book = GraphBook::new(words, &HostSplit);
     let items = book.items();
@@ -89,7 +92,8 @@ pub extern "C" fn naiadiron_settle(
     budget: u32,
     active: &mut [u32],
 ) -> u64
-    ensures { result ≢ 18446744073709551615 → ◌≡◌ {A = ℕ × List ℕ} (result, active.new) (graph_settled words.now requests.now budget active.old) }
+    ensures number { result ≢ 18446744073709551615 → ◌≡◌ {A = ℕ × List ℕ} (result, active.new) (graph_settled words.now requests.now budget active.old) }
+    ensures no_memory { result ≡ 18446744073709551615 → active.new ≡ active.old }
 {
     settle_graph(heap, words, requests, budget, active).unwrap_or(NO_MEMORY)
 }
