@@ -3,7 +3,7 @@ use crate::asks::Asks;
 use crate::draws::draw_house;
 use crate::plain::NONE;
 use crate::readings::house_book;
-use crate::tally::BookTally;
+use crate::books::BookTally;
 use dice::Dice;
 use rulebook::house_book::HouseBook;
 use std::alloc::{AllocError, Global};

@@ -3,6 +3,7 @@
 #![tactic(auto)]
 
 mod asks;
+mod books;
 mod draws;
 #[cfg(test)]
 mod edges;
@@ -13,7 +14,6 @@ mod policies;
 mod readings;
 mod sheets;
 mod shortcuts;
-mod tally;
 
 fn run(rt: &HostRuntime) -> anyhow::Result<()> {
     let heap = rt.alloc();

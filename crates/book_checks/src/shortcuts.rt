@@ -3,7 +3,7 @@ use crate::asks::Asks;
 use crate::draws::draw_graph;
 use crate::readings::{Manner, graph_book};
 use crate::sheets::{HOST_LEAKS, HOST_SPLIT, HOST_SPLIT_NO_DEV, Sheet};
-use crate::tally::BookTally;
+use crate::books::BookTally;
 use dice::Dice;
 use policy::answers::Policy;
 use policy::dev_cut::DevCut;

@@ -1,11 +1,12 @@
 // Files opened by the library and by the second opener.
+use crate::inputs::Compare;
 use crate::opener;
-use crate::tally::{Compare, Tally};
 use graph::opening::open_graph;
 use graph::refusals::Refusal;
 use graph::rows::Opened;
 use std::alloc::{AllocError, Global};
 use std::{fmt, iter};
+use tally::Tally;
 
 // What the library answers.
 pub fn open(file: &[u8], words: &mut [u32]) -> Result<Opened, Refusal> {
@@ -21,12 +22,8 @@ pub struct FileTally {
 
 impl fmt::Display for FileTally {
     fn fmt<W: fmt::Write>(&self, f: &mut fmt::Formatter<W>) -> fmt::Result {
-        let Tally { compared, differ } = self.files;
-        let accepted = self.accepted;
-        write!(
-            f,
-            "{compared} compared, {differ} differ, {accepted} accepted"
-        )
+        let FileTally { files, accepted } = self;
+        write!(f, "{files}, {accepted} accepted")
     }
 }
 

@@ -1,7 +1,7 @@
 // Copies of the example with a byte changed, cut short, or with its records in another order.
 use crate::compared::FileTally;
 use crate::example::{ALL, example, joined, with_byte};
-use crate::tally::compare_all;
+use crate::inputs::compare_all;
 use std::alloc::{AllocError, Global};
 
 // Every byte changed to each of a few others.

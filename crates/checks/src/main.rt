@@ -1,4 +1,5 @@
-// Compares the library with second computations of its answers, on many inputs.
+// Compares the library with second computations of its answers, on many inputs. Takes the number of random files of
+// each kind as its one argument.
 
 #![tactic(auto)]
 
@@ -10,6 +11,7 @@ mod damages;
 mod edges;
 mod encode;
 mod example;
+mod inputs;
 mod kinds;
 #[cfg(test)]
 mod limits;
@@ -18,14 +20,29 @@ mod random;
 mod second;
 mod sketches;
 mod strings;
-mod tally;
 
 use crate::compared::FileTally;
+use crate::inputs::compare_all;
 use crate::random::{draw_changed, draw_file};
 use crate::sketches::Care;
-use crate::tally::compare_all;
+use anyhow::Context;
+use std::env;
 
-fn run(rt: &HostRuntime) -> anyhow::Result<()> {
+// How many random files of each kind there are without an argument.
+const FILES: u64 = 1_000;
+
+// The number of files: that of the first argument after the program's name.
+fn asked_files(rt: &HostRuntime) -> anyhow::Result<u64> {
+    match env::args(rt)?.nth(1) {
+        Some(argument) => argument
+            .parse::<u64>()
+            .context(format_args!("{argument:?} is no number of files")),
+        None => Ok(FILES),
+    }
+}
+
+// Strings, and damaged copies of the example.
+fn compare_tables(rt: &HostRuntime) -> anyhow::Result<()> {
     let heap = rt.alloc();
     let short = strings::compare_short(heap)?;
     println!(rt; "short strings: {short}")?;
@@ -39,19 +56,31 @@ fn run(rt: &HostRuntime) -> anyhow::Result<()> {
     println!(rt; "graph files, a record left out, doubled or moved: {records}")?;
     let exchanges = damaged::compare_exchanges(heap)?;
     println!(rt; "graph files, records exchanged: {exchanges}")?;
+    Ok(())
+}
+
+// Random files.
+fn compare_random(rt: &HostRuntime) -> anyhow::Result<()> {
+    let heap = rt.alloc();
+    let count = asked_files(rt)?;
     let lawful: FileTally = compare_all(
         heap,
-        (0..600).map(|seed| draw_file(heap, seed, Care::Careful)),
+        (0..count).map(|seed| draw_file(heap, seed, Care::Careful)),
     )?;
     println!(rt; "random lawful graphs: {lawful}")?;
     let careless: FileTally = compare_all(
         heap,
-        (0..600).map(|seed| draw_file(heap, seed, Care::Careless)),
+        (0..count).map(|seed| draw_file(heap, seed, Care::Careless)),
     )?;
     println!(rt; "random careless graphs: {careless}")?;
-    let changed: FileTally = compare_all(heap, (0..2_000).map(|seed| draw_changed(heap, seed)))?;
+    let changed: FileTally = compare_all(heap, (0..count).map(|seed| draw_changed(heap, seed)))?;
     println!(rt; "random lawful graphs, a byte changed: {changed}")?;
     Ok(())
+}
+
+fn run(rt: &HostRuntime) -> anyhow::Result<()> {
+    compare_tables(rt)?;
+    compare_random(rt)
 }
 
 fn main(rt: HostRuntime) -> anyhow::Result<()> {

@@ -1,8 +1,9 @@
 // Many strings, each read by the library and by the second computation.
+use crate::inputs::{Compare, compare_all};
 use crate::second;
-use crate::tally::{Compare, Tally, compare_all};
 use std::alloc::{AllocError, Global};
 use std::iter;
+use tally::Tally;
 use text::names::read_name;
 use text::strings::read_feature_string;
 

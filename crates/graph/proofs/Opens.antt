@@ -67,7 +67,7 @@ pub opened-rules : (file : List ℕ) (g : Graph) → Says file g → RulesLaw g
 opened-rules file g s = rules-law g s.lawful
 
 -- the words of a graph: the rows, then the four counts before them
-rows-length : (rs : List Row) → length (flat_map row_words rs) ≡ 5 * length rs
+pub rows-length : (rs : List Row) → length (flat_map row_words rs) ≡ 5 * length rs
 rows-length [] = refl
 rows-length (r ∷ rs) = length-append (row_words r) (flat_map row_words rs) ∙ omega (arith, rows-length rs)
 

@@ -6,7 +6,8 @@ use crate::faults::FileFault;
 use crate::opening::open_graph;
 use crate::rows::Opened;
 
-const EXAMPLE: [u8; 173] = [
+// The file of the packages `app`, `core` and `gen`.
+pub const EXAMPLE: [u8; 173] = [
     4, 0, 0, 0, 1, 0, 1, 0, 7, 0, 0, 0, 2, 0, 0, 3, 97, 112, 112, 13, 0, 0, 0, 3, 0, 1, 0, 0, 1, 0,
     4, 99, 111, 114, 101, 0, 12, 0, 0, 0, 3, 0, 2, 0, 1, 0, 1, 3, 103, 101, 110, 0, 14, 0, 0, 0, 4,
     0, 7, 100, 101, 102, 97, 117, 108, 116, 1, 2, 105, 111, 25, 0, 0, 0, 4, 0, 2, 105, 111, 2, 8,

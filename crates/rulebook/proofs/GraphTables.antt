@@ -10,6 +10,7 @@ use Rattle.graph.specs.Opening.{over}
 use Rattle.graph.specs.OpeningLaw.{In, NamedAt, Opens, Resolved, Stands, needs, builds, defaults, asks, plainly, switches, joins}
 use Rattle.graph.specs.Places.{Item, unit, feat, number, item_count}
 use Rattle.graph.specs.Rules.{Rule, rules, rows, row_of, graph_words, on_some}
+use Rattle.graph.proofs.Opens.{rows-length}
 use Rattle.graph.proofs.RulesStand.{rule-stands, stands-rule}
 use Rattle.policy.specs.declared.sides.Side.{Side}
 use Rattle.policy.specs.declared.sides.Side.TheVariants.{Target, Host}
@@ -24,7 +25,7 @@ use Rattle.rulebook.specs.GraphRules.{Has, number_on, Leads, Watched, TableOf}
 use Rattle.rulebook.specs.RuleLaws.{source, from-watches, mate-watches}
 use Rattle.rulebook.specs.GraphLaws.{InRange, from_row, item-low, item-side}
 use Rattle.rulebook.proofs.ItemPlaces.{number-low, number_same, number-all, dependency-owner}
-use Rattle.rulebook.proofs.RowWords.{row_back, rows-length}
+use Rattle.rulebook.proofs.RowWords.{row_back}
 
 -- P holds of what there is
 abbrev pub Held : {A : Type 0} → (A → Type 0) → Option A → Type 0

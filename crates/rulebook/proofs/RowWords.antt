@@ -22,10 +22,6 @@ from-row-on (x ∷ rs) xs (suc r) d h =
     let z : 5 * suc r ≡ suc (suc (suc (suc (suc (5 * r))))) = omega arith in
     (rest, ap (λ n. drop n (flat_map row_words (x ∷ rs) ++ xs)) z ∙ e)
 
-pub rows-length : (rs : List Row) → length (flat_map row_words rs) ≡ 5 * length rs
-rows-length [] = refl
-rows-length (r ∷ rs) = omega (arith, rows-length rs)
-
 mate-back : (m : Option ℕ) → Among (λ i. i < none) m → mate_of (mate_word m) ≡ m
 mate-back None h = refl
 mate-back (Some i) h = cond-false (eqb i none) None (Some i) (ne_eqb i none (λ e. omega (arith, h)))

@@ -2,9 +2,8 @@
 use crate::cases::{Case, Prospect};
 use crate::follows::World;
 use crate::ours::{Replayed, make_calls};
-use crate::scripts::{Pace, Script};
+use crate::scripts::{Pace, Script, same};
 use crate::separation::{Manner, Mistake, SPLIT, SPLIT_NO_DEV, UNIFIED, UNIFIED_NO_DEV};
-use crate::tally::Tally;
 use crate::trails::{Trail, TrailTally};
 use policy::answers::Policy;
 use policy::dev_cut::DevCut;
@@ -14,6 +13,7 @@ use rulebook::book::Rulebook;
 use rulebook::graph_book::GraphBook;
 use session::calls::{Answer, Call};
 use std::alloc::{AllocError, Global};
+use tally::Tally;
 
 // What was compared.
 #[derive(Default, Drop)]
@@ -21,6 +21,16 @@ pub struct Tallies {
     pub graphs: Tally,
     pub answers: Tally,
     pub trails: TrailTally,
+}
+
+// Compares two lists of answers, in order; if one is longer, the rest of it differs.
+fn note_answers(tally: &mut Tally, answers: &[Answer], others: &[Answer]) {
+    for (answer, other) in answers.iter().zip(others.iter()) {
+        tally.note(same(*answer, *other));
+    }
+    for _ in 0..answers.len().abs_diff(others.len()) {
+        tally.note(false);
+    }
 }
 
 impl Case {
@@ -68,9 +78,11 @@ impl Case {
             records: trail.as_slice(),
         };
         let expected = self.answers(&script, trail)?;
-        tallies
-            .answers
-            .compare(answers.as_slice(), expected.as_slice());
+        note_answers(
+            &mut tallies.answers,
+            answers.as_slice(),
+            expected.as_slice(),
+        );
         trail.check(heap, &mut tallies.trails, both)
     }
 

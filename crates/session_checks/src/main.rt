@@ -20,7 +20,6 @@ mod separation;
 mod shortcuts;
 mod sketches;
 mod spelled;
-mod tally;
 mod trails;
 
 use crate::compared::Tallies;

@@ -6,6 +6,7 @@ use session::calls::{Answer, Reason, SessionFault};
 use session::trail::TrailRecord;
 use std::alloc::{AllocError, Global};
 use std::collections::BTreeSet;
+use std::fmt;
 
 // A trail that is left after two requests, and the items that its numbers mean.
 #[derive(Clone, Copy)]
@@ -32,6 +33,21 @@ impl TrailTally {
         self.wrong = self.wrong.saturating_add(u64::from(!right));
         let pair = record.second.is_some();
         self.pairs = self.pairs.saturating_add(u64::from(pair));
+    }
+}
+
+impl fmt::Display for TrailTally {
+    fn fmt<W: fmt::Write>(&self, f: &mut fmt::Formatter<W>) -> fmt::Result {
+        let TrailTally {
+            records,
+            wrong,
+            pairs,
+            missing,
+        } = self;
+        write!(
+            f,
+            "{records} checked, {pairs} of them with two causes, {wrong} wrong, {missing} missing"
+        )
     }
 }
 

@@ -1,29 +1,9 @@
-// Counts of what is compared.
+// Counts of what books answer.
 use crate::asks::Asks;
 use crate::plain::{PlainBook, Watch};
 use rulebook::book::Rulebook;
 use std::fmt;
-
-// How many answers were compared, and how many differ.
-#[derive(Default, Drop)]
-pub struct Tally {
-    pub compared: u64,
-    pub differ: u64,
-}
-
-impl Tally {
-    pub fn note(&mut self, same: bool) {
-        self.compared = self.compared.saturating_add(1);
-        self.differ = self.differ.saturating_add(u64::from(!same));
-    }
-}
-
-impl fmt::Display for Tally {
-    fn fmt<W: fmt::Write>(&self, f: &mut fmt::Formatter<W>) -> fmt::Result {
-        let Tally { compared, differ } = self;
-        write!(f, "{compared} answers compared, {differ} differ")
-    }
-}
+use tally::Tally;
 
 // Books that were compared: their answers, and how many of these are a watch entry.
 #[derive(Default, Drop)]
