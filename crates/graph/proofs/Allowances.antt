@@ -17,8 +17,9 @@ use Rattle.records.proofs.Numbers.{not-both, in-ok, bytes-split}
 use Rattle.records.proofs.Framing.{frame-says, frame-reads}
 use Rattle.records.proofs.Codes.{at, first}
 use Rattle.records.proofs.CodedFields.{word-coded, name-coded, package-closed, values-closed, dependency-closed}
-use Rattle.graph.specs.Keys.{Key, has_key, most_features}
-use Rattle.graph.specs.Reading.{most_packages, most_dependencies, Content, header, heads, part, end, Stand, kind_here, below, as_content, fresh, feature_field, content_as, content_of, Found, with_content, with_frame, after, Rest, Reading, carried, on_found, scan}
+use Rattle.graph.specs.Keys.{Key, has_key}
+use Rattle.graph.specs.Reading.{Content, header, heads, part, end, Stand, kind_here, below, as_content, fresh, feature_field, content_as, content_of, Found, with_content, with_frame, after, Rest, Reading, carried, on_found, scan}
+use Rattle.graph.specs.Limits.{most_packages, most_dependencies, most_features}
 use Rattle.graph.proofs.Scans.{scan-open}
 
 -- what a record says may stand here

@@ -5,10 +5,10 @@ use Rattle.std.proofs.lemmas.Bool.{eq-eqb, eqb-true, cases_Bool, cases_lt}
 use Rattle.std.specs.Str.{bytes_eq}
 use Rattle.records.specs.Graphs.{Dependency, Graph}
 use Rattle.graph.specs.Depending.{Depending, owned, depending}
-use Rattle.graph.specs.Directory.{no_dependency, no_depending}
+use Rattle.graph.specs.Directory.{no_depending}
 use Rattle.graph.specs.Law.{dependencies_in, dependency_count}
 use Rattle.graph.specs.Namesakes.{among, namesakes}
-use Rattle.graph.specs.Places.{dependencies_of, dependencies_before}
+use Rattle.graph.specs.Places.{dependencies_of, dependencies_before, no_dependency}
 use Rattle.graph.specs.Rules.{each, when}
 
 pub depending-length : (p : ℕ) (g : Graph) → length (depending p g) ≡ dependency_count g

@@ -8,7 +8,8 @@ use Rattle.std.specs.List.{AllByRecursion}
 use Rattle.std.specs.Str.{bytes_eq}
 use Rattle.records.specs.Graphs.{Feature, Part, dependency, feature, Graph}
 use Rattle.graph.specs.declared.index.Entry.{Entry}
-use Rattle.graph.specs.Keys.{Key, is_key, key_of, blank, entry_at, keys_of}
+use Rattle.graph.specs.Keys.{Key, is_key}
+use Rattle.graph.specs.Buckets.{key_of, blank, entry_at, keys_of}
 use Rattle.graph.specs.Law.{features_in, dependency_count, Differ, LawfulPackage}
 use Rattle.graph.specs.Gathered.{keys_in, keys_from}
 use Rattle.graph.specs.Places.{feat, features_of, features_before, number}

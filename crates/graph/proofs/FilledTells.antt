@@ -7,11 +7,11 @@ use Rattle.records.specs.Graphs.{dependency, feature, Graph}
 use Rattle.graph.specs.declared.filled.Filled.{Filled}
 use Rattle.graph.specs.declared.tables.Directory.{Directory}
 use Rattle.graph.specs.Depending.{Depending, depending, Named}
-use Rattle.graph.specs.Directory.{Tells, no_package, no_part, no_dependency, no_depending, no_feature, no_placed}
+use Rattle.graph.specs.Directory.{Tells, no_package, no_part, no_depending, no_placed}
 use Rattle.graph.specs.Laying.{its, ReadsAs, PlacedAs}
 use Rattle.graph.specs.Law.{dependency_count, feature_count}
-use Rattle.graph.specs.Places.{feat, dependencies_of, features_of, proc_of, number, dependencies_before, features_before}
-use Rattle.graph.specs.Keys.{past, newest_of, IsEntry}
+use Rattle.graph.specs.Places.{feat, dependencies_of, features_of, proc_of, number, dependencies_before, features_before, no_dependency, no_feature}
+use Rattle.graph.specs.Buckets.{past, newest_of, IsEntry}
 use Rattle.graph.specs.Namesakes.{among_from, namesakes}
 use Rattle.graph.specs.Rules.{on_some, place_of}
 use Rattle.graph.specs.Second.{placed}

@@ -11,12 +11,11 @@ use Rattle.records.proofs.Numbers.{not-both, in-ok}
 use Rattle.records.proofs.Framing.{frame-reads}
 use Rattle.graph.specs.declared.tables.PackageEntry.{PackageEntry}
 use Rattle.graph.specs.declared.tables.PartEntry.{PartEntry}
-use Rattle.graph.specs.Reading.{most_packages, most_dependencies}
-use Rattle.graph.specs.Keys.{most_features}
+use Rattle.graph.specs.Limits.{most_packages, most_dependencies, most_features, most_parts}
 use Rattle.graph.specs.Law.{Says}
 use Rattle.graph.specs.Second.{package_record}
 use Rattle.graph.specs.Directory.{no_package, no_part}
-use Rattle.graph.specs.Filling.{most_parts, marked, Tables, TellsParts, TellsGraph, Keeps, Ahead, Midway}
+use Rattle.graph.specs.Filling.{marked, Tables, TellsParts, TellsGraph, Keeps, Ahead, Midway}
 use Rattle.graph.proofs.Scans.{frame-shorter}
 use Rattle.graph.proofs.Sequels.{tail_bytes, part-bytes, package-bytes, graph-bytes}
 

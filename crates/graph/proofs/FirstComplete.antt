@@ -4,7 +4,8 @@ use Rattle.std.proofs.lemmas.List.{length-append}
 use Rattle.std.proofs.lemmas.Bool.{cond-false, le-ltb}
 use Rattle.records.specs.Graphs.{Part, dependency, feature, Graph}
 use Rattle.records.specs.Encoding.{encode}
-use Rattle.graph.specs.Reading.{most_bytes, Content, header, heads, part, end, Stand, begin, after, on_rest, scan, graph_in, first_reading}
+use Rattle.graph.specs.Reading.{Content, header, heads, part, end, Stand, begin, after, on_rest, scan, graph_in, first_reading}
+use Rattle.graph.specs.Limits.{most_bytes}
 use Rattle.graph.specs.Law.{Says}
 use Rattle.graph.proofs.Allowances.{body_of, content_bytes, found, scan-reads}
 use Rattle.graph.proofs.Sequels.{May, Owners, heads-may, dependency-may, feature-may, tail_bytes, part-bytes, package-bytes, graph-bytes}

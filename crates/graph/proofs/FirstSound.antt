@@ -6,8 +6,8 @@ use Rattle.records.specs.Graphs.{dependency, feature, Graph}
 use Rattle.records.specs.Encoding.{header_bytes, encode, Bytes}
 use Rattle.records.proofs.Numbers.{not-both, in-ok, bytes-split}
 use Rattle.graph.specs.declared.faults.FileFault.TheVariants.{Size}
-use Rattle.graph.specs.Keys.{most_features}
-use Rattle.graph.specs.Reading.{most_bytes, most_packages, most_dependencies, Content, header, heads, part, end, Stand, begin, after, Rest, Reading, on_rest, scan, graph_in, first_reading}
+use Rattle.graph.specs.Reading.{Content, header, heads, part, end, Stand, begin, after, Rest, Reading, on_rest, scan, graph_in, first_reading}
+use Rattle.graph.specs.Limits.{most_bytes, most_packages, most_dependencies, most_features}
 use Rattle.graph.specs.Law.{Says}
 use Rattle.graph.proofs.Allowances.{Allowed, body_of, content_bytes, found, onward, scan-says}
 use Rattle.graph.proofs.Sequels.{May, key, may-end, may-heads, may-dependency, may-feature, tail_bytes, part-bytes, package-bytes, graph-bytes}

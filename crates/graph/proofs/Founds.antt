@@ -11,7 +11,7 @@ use Rattle.records.specs.Bodies.{Head, package_field, dependency_field}
 use Rattle.records.specs.Graphs.{Dependency, Feature, dependency, feature}
 use Rattle.records.proofs.Codes.{at}
 use Rattle.records.proofs.Numbers.{not-both}
-use Rattle.graph.specs.Keys.{most_features}
+use Rattle.graph.specs.Limits.{most_features}
 use Rattle.graph.specs.Reading.{Stand, header, heads, part, end, kind_here, as_content, feature_field, content_as, content_of}
 
 -- only a feature record says a feature, and only where there is room for it

@@ -9,7 +9,8 @@ use Rattle.graph.specs.declared.contents.Counts.{Counts}
 use Rattle.graph.specs.declared.faults.FileFault.{FileFault}
 use Rattle.graph.specs.declared.faults.FileFault.TheVariants.{Size}
 use Rattle.graph.specs.declared.index.Index.{Index}
-use Rattle.graph.specs.Reading.{most_bytes, begin, Reading, scan, graph_in, first_reading}
+use Rattle.graph.specs.Reading.{begin, Reading, scan, graph_in, first_reading}
+use Rattle.graph.specs.Limits.{most_bytes}
 use Rattle.graph.specs.Law.{features_in, dependency_count, feature_count, Says}
 use Rattle.graph.specs.Gathered.{keys_in, keys_from, Gathered, gathered, gathered_in, gathered_by}
 use Rattle.graph.specs.Views.{keys}

@@ -7,7 +7,7 @@ pub mod Allowances
 pub mod Sequels
 pub mod FirstSound
 pub mod FirstComplete
-pub mod FirstLaw
+pub mod FirstFaults
 pub mod PartsAgain
 pub mod FilledTells
 pub mod SheetRows

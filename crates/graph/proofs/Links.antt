@@ -6,7 +6,9 @@ use Rattle.std.proofs.lemmas.List.{length-replicate, get_or-set_same, get_or-set
 use Rattle.std.proofs.lemmas.Bool.{cond-true, cond-false, eqb-true, and_parts, cases_Bool, cases_eq, cases_lt, or_from, or_left, or_right}
 use Rattle.std.specs.Str.{bytes_eq}
 use Rattle.graph.specs.declared.index.Entry.{Entry}
-use Rattle.graph.specs.Keys.{Key, is_key, has_key, bucket_of, key_of, blank, entry_at, keys_of, bucket_at, most_features, past, Linked, newest_of, IsEntry, InBucket}
+use Rattle.graph.specs.Keys.{Key, is_key, has_key}
+use Rattle.graph.specs.Buckets.{bucket_of, key_of, blank, entry_at, keys_of, bucket_at, past, Linked, newest_of, IsEntry, InBucket}
+use Rattle.graph.specs.Limits.{most_features}
 
 -- at any place, where the library's `get_or-replicate` asks for one inside
 pub nones : (n h : ℕ) → ◌≡◌ {A = Option ℕ} (get_or (replicate n None) h None) None

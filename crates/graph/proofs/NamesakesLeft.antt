@@ -6,7 +6,8 @@ use Rattle.records.specs.Graphs.{Dependency, Graph}
 use Rattle.graph.specs.declared.index.Index.{Index}
 use Rattle.graph.specs.Depending.{Depending, depending, dependency_key, Named}
 use Rattle.graph.specs.Directory.{no_depending}
-use Rattle.graph.specs.Keys.{is_key, key_of, blank, entry_at, past, newest_of}
+use Rattle.graph.specs.Keys.{is_key}
+use Rattle.graph.specs.Buckets.{key_of, blank, entry_at, past, newest_of}
 use Rattle.graph.specs.Namesakes.{among, among_from}
 use Rattle.graph.proofs.Links.{keys_length, keys-at}
 

@@ -1,7 +1,8 @@
 -- Checks of single records make those of all.
-use Rattle.std.proofs.Common.{◌≡◌, ℕ, ◌+◌, ◌<◌, Bool, cond, List, [], ◌∷◌, map, length, get_or, drop, Some, None, Err, Option, Result, sym, refl, ap, ◌∙◌, arith}
+use Rattle.std.proofs.Common.{◌≡◌, ℕ, ◌+◌, ◌<◌, Bool, cond, List, [], ◌∷◌, map, length, get_or, drop, Some, None, Ok, Err, Option, Result, sym, refl, ap, ◌∙◌, arith}
 use Rattle.std.proofs.lemmas.List.{at_drop_more}
 use Rattle.std.proofs.lemmas.Option.{none-some}
+use Rattle.records.specs.declared.faults.RecordFault.{RecordFault}
 use Rattle.records.specs.declared.faults.RecordFault.TheVariants.{Unknown}
 use Rattle.graph.specs.declared.faults.InRecord.{InRecord}
 use Rattle.graph.specs.declared.contents.Owned as owned
@@ -9,7 +10,7 @@ use Rattle.graph.specs.declared.contents.Owned.TheVariants as kept
 use Rattle.graph.specs.Directory.{no_placed}
 use Rattle.graph.specs.Rules.{on_some}
 use Rattle.graph.specs.Views.{owned_view}
-use Rattle.graph.specs.Second.{Placed, first_unknown, fault_at, checked}
+use Rattle.graph.specs.Second.{Placed, all_known, or_after, checked}
 use Rattle.text.specs.Forms.{Form, spell}
 use Rattle.records.specs.Bodies.{form_in, dependency_view, feature_view}
 use Rattle.records.specs.declared.bodies.Dependency.{Dependency as DependencyBody}
@@ -17,25 +18,25 @@ use Rattle.records.specs.declared.bodies.Feature.{Feature as FeatureBody}
 use Rattle.records.specs.Graphs.{Dependency, Part, dependency, feature}
 use Rattle.records.proofs.Listings.{said-spelled}
 
--- what is unknown in some strings, by the strings and by what they say
-pub unknown-texts : (test : Form (List ℕ) → Bool) (at : ℕ) (ts : List (List ℕ)) → first_unknown (λ t. test (form_in t)) length at ts ≡ first_unknown test (λ v. length (spell v)) at (map form_in ts)
-unknown-texts test at [] = refl
-unknown-texts test at (t ∷ ts) =
+-- whether some strings are known, by the strings and by what they say
+pub known-texts : (test : Form (List ℕ) → Bool) (at : ℕ) (ts : List (List ℕ)) → all_known (λ t. test (form_in t)) length at ts ≡ all_known test (λ v. length (spell v)) at (map form_in ts)
+known-texts test at [] = refl
+known-texts test at (t ∷ ts) =
     let size : length t ≡ length (spell (form_in t)) = sym (ap length (said-spelled t)) in
-    ap (λ r. cond (test (form_in t)) r (Some (at + 1))) (unknown-texts test ((at + 1) + length t) ts ∙ ap (λ n. first_unknown test (λ v. length (spell v)) ((at + 1) + n) (map form_in ts)) size)
+    ap (λ r. cond (test (form_in t)) r (Err (Unknown (at + 1)))) (known-texts test ((at + 1) + length t) ts ∙ ap (λ n. all_known test (λ v. length (spell v)) ((at + 1) + n) (map form_in ts)) size)
 
 pub same-part : (p q : Part) → ◌≡◌ {A = Option Part} (Some p) (Some q) → p ≡ q
 same-part p q e = cc
 
 -- a loop over the records
-module _ (test : Placed → Option ℕ) (xs : List Placed) (j : ℕ) (all : Result (Unit {0}) InRecord) (inv : checked test (drop j xs) ≡ all) (l : j < length xs) where
-  opened : fault_at (get_or xs j no_placed) (test (get_or xs j no_placed)) (checked test (drop (j + 1) xs)) ≡ all
+module _ (test : Placed → Result (Unit {0}) RecordFault) (xs : List Placed) (j : ℕ) (all : Result (Unit {0}) InRecord) (inv : checked test (drop j xs) ≡ all) (l : j < length xs) where
+  opened : or_after (get_or xs j no_placed) (test (get_or xs j no_placed)) (checked test (drop (j + 1) xs)) ≡ all
   opened = sym (at_drop_more (checked test) xs j no_placed l) ∙ inv
 
-  pub check-stops : (field number start : ℕ) → test (get_or xs j no_placed) ≡ Some field → number ≡ (get_or xs j no_placed).number → start ≡ (get_or xs j no_placed).start → Err (record { number = number; start = start; fault = Unknown field }) ≡ all
-  check-stops field number start e n s =
-      (λ i. Err (record { number = n i; start = s i; fault = Unknown field }))
-      ∙ ap (λ u. fault_at (get_or xs j no_placed) u (checked test (drop (j + 1) xs))) (sym e)
+  pub check-stops : (fault : RecordFault) (number start : ℕ) → test (get_or xs j no_placed) ≡ Err fault → number ≡ (get_or xs j no_placed).number → start ≡ (get_or xs j no_placed).start → Err (record { number = number; start = start; fault = fault }) ≡ all
+  check-stops fault number start e n s =
+      (λ i. Err (record { number = n i; start = s i; fault = fault }))
+      ∙ ap (λ u. or_after (get_or xs j no_placed) u (checked test (drop (j + 1) xs))) (sym e)
       ∙ opened
 
 -- a record that is read again as a dependency is that one

@@ -5,9 +5,9 @@ use Rattle.records.specs.Graphs.{Part, dependency, feature, Graph}
 use Rattle.graph.specs.declared.filled.Filled.{Filled}
 use Rattle.graph.specs.declared.rows.Row.{Row}
 use Rattle.graph.specs.declared.tables.Starts.{Starts}
-use Rattle.graph.specs.Directory.{no_dependency, no_feature, no_placed}
+use Rattle.graph.specs.Directory.{no_placed}
 use Rattle.graph.specs.Laying.{its, ReadsAs, TableOf, part_rows, dependencies_rows, features_rows}
-use Rattle.graph.specs.Places.{dep, feat, dependencies_of, features_of, number}
+use Rattle.graph.specs.Places.{dep, feat, dependencies_of, features_of, number, no_dependency, no_feature}
 use Rattle.graph.specs.Rules.{each}
 
 -- a table of things that are parts

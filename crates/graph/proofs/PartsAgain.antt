@@ -8,7 +8,7 @@ use Rattle.records.proofs.Framing.{frame-reads}
 use Rattle.records.proofs.Codes.{at}
 use Rattle.records.proofs.CodedFields.{name-coded, values-closed}
 use Rattle.graph.specs.Parts.{feature_again, or_none, part_as, part_in}
-use Rattle.graph.specs.Directory.{Stands}
+use Rattle.graph.specs.Directory.{RecordAt}
 use Rattle.graph.proofs.Allowances.{dependency-reads}
 
 feature-reads : (f : Feature) (k : ℕ) → LawfulFeature f → (w : View) × (feature_again (at (feature_body f) k) ≡ Ok (f, w))
@@ -22,7 +22,7 @@ feature-reads f k l =
           ∙ ap (λ r. on_ok r (λ values. give (record { name = f.name; values = values }))) b,
     )
 
-pub stands-reads : (file : List ℕ) (start : ℕ) (p : Part) → Stands file start p → part_in (drop start file) ≡ Some p
+pub stands-reads : (file : List ℕ) (start : ℕ) (p : Part) → RecordAt file start p → part_in (drop start file) ≡ Some p
 stands-reads file start (dependency d) s =
     let r = dependency-reads d 6 s.lawful in
     ap part_in s.bytes ∙ ap part_as (frame-reads 3 (dependency_body d) s.rest) ∙ ap (or_none dependency) r.1

@@ -1,5 +1,5 @@
 -- The second reading finds no fault exactly if every reference is resolved.
-use Rattle.std.proofs.Common.{◌≡◌, ℕ, zero, suc, ◌+◌, ◌-◌, ◌<◌, ◌≤◌, Bool, true, false, cond, ltb, List, [], ◌∷◌, ◌++◌, length, get_or, is_some, Some, None, Ok, Err, Option, Result, sym, refl, ap, ◌∙◌, subst, ⊎_elim, arith}
+use Rattle.std.proofs.Common.{◌≡◌, ℕ, zero, suc, ◌+◌, ◌-◌, ◌<◌, ◌≤◌, Bool, true, false, cond, ltb, List, [], ◌∷◌, ◌++◌, length, get_or, is_some, Some, None, Ok, Err, Option, Result, sym, refl, ap, ◌∙◌, subst, inl, inr, ⊎_elim, arith}
 use Rattle.std.proofs.ByRecursion.{All-get_or, All-from_get_or, All-append, All-weaker}
 use Rattle.std.proofs.lemmas.Slice.Eq.{bytes_eq-Decides}
 use Rattle.std.proofs.lemmas.List.{length-append, get_or_append_left, get_or-append-add}
@@ -7,16 +7,19 @@ use Rattle.std.proofs.lemmas.Bool.{cond-true, cond-false, ltb-true, lt-ltb, and_
 use Rattle.std.specs.List.{AllByRecursion}
 use Rattle.std.specs.Str.{bytes_eq}
 use Rattle.text.specs.Forms.{Form, plain, switch, strong, weak, spell}
-use Rattle.records.proofs.Numbers.{not-both}
+use Rattle.records.proofs.Numbers.{not-both, in-err}
+use Rattle.records.specs.declared.faults.RecordFault.{RecordFault}
+use Rattle.records.specs.declared.faults.RecordFault.TheVariants.{Unknown}
 use Rattle.records.specs.Graphs.{Dependency, Feature, Part, dependency, feature, Graph}
 use Rattle.records.specs.Encoding.{part_bytes, header_bytes}
 use Rattle.graph.specs.declared.faults.InRecord.{InRecord}
 use Rattle.graph.specs.Law.{dependencies_in, features_in, dependency_count, feature_count}
-use Rattle.graph.specs.Places.{parts_of, dependencies_of, features_of}
+use Rattle.graph.specs.Places.{parts_of, dependencies_of, features_of, no_dependency, no_feature}
 use Rattle.graph.specs.Rules.{later, place_of}
-use Rattle.graph.specs.Second.{Placed, placed_parts, placed_from, placed, package_record, parts_length, has_feature, has_dependency, end_has, ends_have, known, first_unknown, unknown_in, unknown_end, fault_at, checked, ends, references, then_check, second_reading}
-use Rattle.graph.specs.Directory.{no_dependency, no_feature, no_placed}
-use Rattle.graph.specs.OpeningLaw.{DependencyAt, FeatureAt, HasFeature, HasDependency, EndsHave, Resolves, Resolved}
+use Rattle.graph.specs.Second.{Placed, placed_parts, placed_from, placed, package_record, parts_length, has_feature, has_dependency, end_has, ends_have, known, all_known, names_known, end_known, or_after, checked, ends, references, then_check, second_reading}
+use Rattle.graph.specs.Directory.{no_placed}
+use Rattle.graph.specs.Limits.{end_place, dependency_name_place, feature_name_place}
+use Rattle.graph.specs.OpeningLaw.{In, DependencyAt, FeatureAt, HasFeature, HasDependency, EndsHave, Resolves, Resolved, Refers}
 
 -- how many records there are
 
@@ -156,47 +159,55 @@ module _ (Q : ℕ → Part → Type 0) where
       (All-from_get_or (λ x. Q p (dependency x)) (dependencies_of g p) no_dependency (λ k l. ds p k (get_or (dependencies_of g p) k no_dependency) (l, refl)))
       (All-from_get_or (λ x. Q p (feature x)) (features_of g p) no_feature (λ k l. fs p k (get_or (features_of g p) k no_feature) (l, refl)))))
 
--- a check finds no fault exactly if it finds none in any record
-module _ (test : Placed → Option ℕ) where
-  checked-all : (xs : List Placed) → checked test xs ≡ Ok tt → AllByRecursion (λ x. test x ≡ None) xs
+-- a check finds no fault exactly if it finds none in any record; and the fault that it finds is one of a record
+module _ (test : Placed → Result (Unit {0}) RecordFault) where
+  checked-all : (xs : List Placed) → checked test xs ≡ Ok tt → AllByRecursion (λ x. test x ≡ Ok tt) xs
   checked-all [] e = tt
   checked-all (x ∷ xs) e = go (test x) refl e (checked-all xs)
     where
-      go : (o : Option ℕ) → test x ≡ o → fault_at x o (checked test xs) ≡ Ok tt → (checked test xs ≡ Ok tt → AllByRecursion (λ y. test y ≡ None) xs) → AllByRecursion (λ y. test y ≡ None) (x ∷ xs)
-      go None q h more = (q, more h)
-      go (Some at) q h more = absurd (not-both h)
+      go : (r : Result (Unit {0}) RecordFault) → test x ≡ r → or_after x r (checked test xs) ≡ Ok tt → (checked test xs ≡ Ok tt → AllByRecursion (λ y. test y ≡ Ok tt) xs) → AllByRecursion (λ y. test y ≡ Ok tt) (x ∷ xs)
+      go (Ok u) q h more = (q, more h)
+      go (Err f) q h more = absurd (not-both h)
 
-  all-checked : (xs : List Placed) → AllByRecursion (λ x. test x ≡ None) xs → checked test xs ≡ Ok tt
+  all-checked : (xs : List Placed) → AllByRecursion (λ x. test x ≡ Ok tt) xs → checked test xs ≡ Ok tt
   all-checked [] h = refl
-  all-checked (x ∷ xs) h = ap (λ o. fault_at x o (checked test xs)) h.0 ∙ all-checked xs h.1
+  all-checked (x ∷ xs) h = ap (λ r. or_after x r (checked test xs)) h.0 ∙ all-checked xs h.1
+
+  fault-of : (xs : List Placed) (y : InRecord) → checked test xs ≡ Err y → (x : Placed) × In x xs × (f : RecordFault) × (test x ≡ Err f) × (y ≡ record { number = x.number; start = x.start; fault = f })
+  fault-of [] y e = absurd (not-both (sym e))
+  fault-of (x ∷ xs) y e = go (test x) refl e (fault-of xs y)
+    where
+      go : (r : Result (Unit {0}) RecordFault) → test x ≡ r → or_after x r (checked test xs) ≡ Err y → (checked test xs ≡ Err y → (z : Placed) × In z xs × (f : RecordFault) × (test z ≡ Err f) × (y ≡ record { number = z.number; start = z.start; fault = f })) → (z : Placed) × In z (x ∷ xs) × (f : RecordFault) × (test z ≡ Err f) × (y ≡ record { number = z.number; start = z.start; fault = f })
+      go (Ok u) q h more = let w = more h in (w.0, inr w.1, w.2, w.3, w.4)
+      go (Err f) q h more = (x, inl refl, f, q, sym (in-err _ _ h))
 
 -- the end of a dependency
-end_known : (g : Graph) (d : Dependency) → unknown_end g (dependency d) ≡ None → d.end < length g
-end_known g d e = go (ltb d.end (length g)) refl e
+end-there : (g : Graph) (d : Dependency) → end_known g (dependency d) ≡ Ok tt → d.end < length g
+end-there g d e = go (ltb d.end (length g)) refl e
   where
-    go : (b : Bool) → ltb d.end (length g) ≡ b → cond {A = Option ℕ} b None (Some 6) ≡ None → d.end < length g
+    go : (b : Bool) → ltb d.end (length g) ≡ b → cond {A = Result (Unit {0}) RecordFault} b (Ok tt) (Err (Unknown end_place)) ≡ Ok tt → d.end < length g
     go true q h = ltb-true d.end (length g) q
-    go false q h = absurd (let z : ◌≡◌ {A = ℕ} 0 1 = cc in omega arith)
+    go false q h = absurd (not-both h)
 
 pub ends-resolved : (g : Graph) → ends g (placed g) ≡ Ok tt → (p k : ℕ) (d : Dependency) → DependencyAt g p k d → d.end < length g
-ends-resolved g e p k d at = end_known g d (held-dependency (λ o x. unknown_end g x ≡ None) g (checked-all (λ x. unknown_end g x.part) (placed g) e) p k d at)
+ends-resolved g e p k d at = end-there g d (held-dependency (λ o x. end_known g x ≡ Ok tt) g (checked-all (λ x. end_known g x.part) (placed g) e) p k d at)
 
-known-end : (g : Graph) (d : Dependency) → d.end < length g → unknown_end g (dependency d) ≡ None
-known-end g d l = cond-true _ _ _ (lt-ltb d.end (length g) l)
+there-end : (g : Graph) (d : Dependency) → d.end < length g → end_known g (dependency d) ≡ Ok tt
+there-end g d l = cond-true _ _ _ (lt-ltb d.end (length g) l)
 
--- no string is unknown exactly if each is known
+-- all strings are known exactly if each is
 module _ {A : Type 0} (test : A → Bool) (size : A → ℕ) where
-  none-unknown : (at : ℕ) (xs : List A) → first_unknown test size at xs ≡ None → AllByRecursion (λ x. test x ≡ true) xs
-  none-unknown at [] e = tt
-  none-unknown at (x ∷ xs) e = go (test x) refl e (none-unknown ((at + 1) + size x) xs)
+  known-each : (at : ℕ) (xs : List A) → all_known test size at xs ≡ Ok tt → AllByRecursion (λ x. test x ≡ true) xs
+  known-each at [] e = tt
+  known-each at (x ∷ xs) e = go (test x) refl e (known-each ((at + 1) + size x) xs)
     where
-      go : (b : Bool) → test x ≡ b → cond b (first_unknown test size ((at + 1) + size x) xs) (Some (at + 1)) ≡ None → (first_unknown test size ((at + 1) + size x) xs ≡ None → AllByRecursion (λ y. test y ≡ true) xs) → AllByRecursion (λ y. test y ≡ true) (x ∷ xs)
+      go : (b : Bool) → test x ≡ b → cond b (all_known test size ((at + 1) + size x) xs) (Err (Unknown (at + 1))) ≡ Ok tt → (all_known test size ((at + 1) + size x) xs ≡ Ok tt → AllByRecursion (λ y. test y ≡ true) xs) → AllByRecursion (λ y. test y ≡ true) (x ∷ xs)
       go true q h more = (q, more h)
-      go false q h more = absurd (let z : ◌≡◌ {A = ℕ} 0 1 = cc in omega arith)
+      go false q h more = absurd (not-both h)
 
-  unknown-none : (at : ℕ) (xs : List A) → AllByRecursion (λ x. test x ≡ true) xs → first_unknown test size at xs ≡ None
-  unknown-none at [] h = refl
-  unknown-none at (x ∷ xs) h = cond-true _ _ _ h.0 ∙ unknown-none ((at + 1) + size x) xs h.1
+  each-known : (at : ℕ) (xs : List A) → AllByRecursion (λ x. test x ≡ true) xs → all_known test size at xs ≡ Ok tt
+  each-known at [] h = refl
+  each-known at (x ∷ xs) h = cond-true _ _ _ h.0 ∙ each-known ((at + 1) + size x) xs h.1
 
 -- a place that a name has among features is that of a feature of this name
 pub place-name : (fs : List Feature) (n : List ℕ) (j : ℕ) → place_of fs n ≡ Some j → (j < length fs) × ((get_or fs j no_feature).name ≡ n)
@@ -316,23 +327,72 @@ both-checked (Err x) b e = absurd (not-both e)
 pub second-resolved : (g : Graph) → second_reading g ≡ Ok tt → Resolved g
 second-resolved g e =
     let b = both-checked (ends g (placed g)) (references g (placed g)) e in
-    let r = checked-all (λ x. unknown_in g x.owner x.part) (placed g) b.1 in
+    let r = checked-all (λ x. names_known g x.owner x.part) (placed g) b.1 in
     record {
       ends = ends-resolved g b.0;
       asks = λ p k d at. All-weaker (λ n. has_feature (features_of g d.end) n ≡ true) (HasFeature g d.end) (has-feature g d.end) d.asks
-          (none-unknown (has_feature (features_of g d.end)) length ((12 + length d.name) + 1) d.asks (held-dependency (λ o x. unknown_in g o x ≡ None) g r p k d at));
+          (known-each (has_feature (features_of g d.end)) length ((dependency_name_place + length d.name) + 1) d.asks (held-dependency (λ o x. names_known g o x ≡ Ok tt) g r p k d at));
       values = λ p k f at. All-weaker (λ v. known g p v ≡ true) (Resolves g p) (known-resolves g p) f.values
-          (none-unknown (known g p) (λ v. length (spell v)) ((7 + length f.name) + 1) f.values (held-feature (λ o x. unknown_in g o x ≡ None) g r p k f at));
+          (known-each (known g p) (λ v. length (spell v)) ((feature_name_place + length f.name) + 1) f.values (held-feature (λ o x. names_known g o x ≡ Ok tt) g r p k f at));
     }
+
+-- what a part refers to is there only if both checks of its record find no fault
+refers-known : (g : Graph) (p : ℕ) (x : Part) → Refers g p x → (end_known g x ≡ Ok tt) × (names_known g p x ≡ Ok tt)
+refers-known g p (dependency d) h = (there-end g d h.0, each-known _ length ((dependency_name_place + length d.name) + 1) d.asks (All-weaker (HasFeature g d.end) (λ n. has_feature (features_of g d.end) n ≡ true) (feature-has g d.end) d.asks h.1))
+refers-known g p (feature f) h = (refl, each-known (known g p) (λ v. length (spell v)) ((feature_name_place + length f.name) + 1) f.values (All-weaker (Resolves g p) (λ v. known g p v ≡ true) (resolves_known g p) f.values h))
+
+-- both checks find only that something is unknown
+names-unknown : {A : Type 0} (test : A → Bool) (size : A → ℕ) (at : ℕ) (xs : List A) (e : RecordFault) → all_known test size at xs ≡ Err e → (field : ℕ) × (e ≡ Unknown field)
+names-unknown test size at [] e h = absurd (not-both (sym h))
+names-unknown test size at (x ∷ xs) e h = go (test x) h (names-unknown test size ((at + 1) + size x) xs e)
+  where
+    go : (b : Bool) → cond b (all_known test size ((at + 1) + size x) xs) (Err (Unknown (at + 1))) ≡ Err e → (all_known test size ((at + 1) + size x) xs ≡ Err e → (field : ℕ) × (e ≡ Unknown field)) → (field : ℕ) × (e ≡ Unknown field)
+    go true q more = more q
+    go false q more = (at + 1, sym (in-err _ _ q))
+
+part-unknown : (g : Graph) (p : ℕ) (x : Part) (e : RecordFault) → names_known g p x ≡ Err e → (field : ℕ) × (e ≡ Unknown field)
+part-unknown g p (dependency d) e h = names-unknown _ _ _ d.asks e h
+part-unknown g p (feature f) e h = names-unknown _ _ _ f.values e h
+
+end-unknown : (g : Graph) (x : Part) (e : RecordFault) → end_known g x ≡ Err e → (field : ℕ) × (e ≡ Unknown field)
+end-unknown g (dependency d) e h = go (ltb d.end (length g)) h
+  where
+    go : (b : Bool) → cond {A = Result (Unit {0}) RecordFault} b (Ok tt) (Err (Unknown end_place)) ≡ Err e → (field : ℕ) × (e ≡ Unknown field)
+    go true q = absurd (not-both (sym q))
+    go false q = (end_place, sym (in-err _ _ q))
+end-unknown g (feature f) e h = absurd (not-both (sym h))
+
+-- the record at fault, and that something it refers to is not there
+abbrev Amiss : Graph → InRecord → Type 0
+Amiss g y = (x : Placed) × In x (placed g) × (y.number ≡ x.number) × (y.start ≡ x.start) × (Refers g x.owner x.part → ⊥) × ((field : ℕ) × (y.fault ≡ Unknown field))
+
+pub second-amiss : (g : Graph) (y : InRecord) → second_reading g ≡ Err y → Amiss g y
+second-amiss g y e = go (ends g (placed g)) refl e
+  where
+    of_ends : ends g (placed g) ≡ Err y → Amiss g y
+    of_ends h =
+        let w = fault-of (λ x. end_known g x.part) (placed g) y h in
+        let u = end-unknown g w.0.part w.2 w.3 in
+        (w.0, w.1, ap (λ z. z.number) w.4, ap (λ z. z.start) w.4, (λ r. not-both (sym w.3 ∙ (refers-known g w.0.owner w.0.part r).0)), (u.0, ap (λ z. z.fault) w.4 ∙ u.1))
+
+    of_names : references g (placed g) ≡ Err y → Amiss g y
+    of_names h =
+        let w = fault-of (λ x. names_known g x.owner x.part) (placed g) y h in
+        let u = part-unknown g w.0.owner w.0.part w.2 w.3 in
+        (w.0, w.1, ap (λ z. z.number) w.4, ap (λ z. z.start) w.4, (λ r. not-both (sym w.3 ∙ (refers-known g w.0.owner w.0.part r).1)), (u.0, ap (λ z. z.fault) w.4 ∙ u.1))
+
+    go : (r : Result (Unit {0}) InRecord) → ends g (placed g) ≡ r → then_check r (references g (placed g)) ≡ Err y → Amiss g y
+    go (Ok u) q h = of_names h
+    go (Err z) q h = of_ends (q ∙ h)
 
 pub resolved-second : (g : Graph) → Resolved g → second_reading g ≡ Ok tt
 resolved-second g h =
-    let a : ends g (placed g) ≡ Ok tt = all-checked (λ x. unknown_end g x.part) (placed g) (all_held (λ o x. unknown_end g x ≡ None) g
-    (λ p k d at. known-end g d (h.ends p k d at))
+    let a : ends g (placed g) ≡ Ok tt = all-checked (λ x. end_known g x.part) (placed g) (all_held (λ o x. end_known g x ≡ Ok tt) g
+    (λ p k d at. there-end g d (h.ends p k d at))
     (λ p k f at. refl)) in
-    let b : references g (placed g) ≡ Ok tt = all-checked (λ x. unknown_in g x.owner x.part) (placed g) (all_held (λ o x. unknown_in g o x ≡ None) g
-    (λ p k d at. unknown-none (has_feature (features_of g d.end)) length ((12 + length d.name) + 1) d.asks
+    let b : references g (placed g) ≡ Ok tt = all-checked (λ x. names_known g x.owner x.part) (placed g) (all_held (λ o x. names_known g o x ≡ Ok tt) g
+    (λ p k d at. each-known (has_feature (features_of g d.end)) length ((dependency_name_place + length d.name) + 1) d.asks
     (All-weaker (HasFeature g d.end) (λ n. has_feature (features_of g d.end) n ≡ true) (feature-has g d.end) d.asks (h.asks p k d at)))
-    (λ p k f at. unknown-none (known g p) (λ v. length (spell v)) ((7 + length f.name) + 1) f.values
+    (λ p k f at. each-known (known g p) (λ v. length (spell v)) ((feature_name_place + length f.name) + 1) f.values
     (All-weaker (Resolves g p) (λ v. known g p v ≡ true) (resolves_known g p) f.values (h.values p k f at)))) in
     ap (λ r. then_check r (references g (placed g))) a ∙ b

@@ -6,9 +6,8 @@ use Rattle.std.specs.Str.{bytes_eq}
 use Rattle.text.specs.Forms.{Form, plain, switch, strong, weak}
 use Rattle.records.specs.Graphs.{Dependency, Feature, Part, Graph}
 use Rattle.graph.specs.Law.{dependencies_in, features_in, Lawful}
-use Rattle.graph.specs.Places.{unit, dep, feat, parts_of, dependencies_of, features_of}
+use Rattle.graph.specs.Places.{unit, dep, feat, parts_of, dependencies_of, features_of, no_dependency, no_feature}
 use Rattle.graph.specs.Rules.{Rule, lane_of, place_of, when_some, when, each, unless, ask_rule, dependency_rules, switch_rule, weak_rule, named, value_rules, feature_rules, package_rules, rules}
-use Rattle.graph.specs.Directory.{no_dependency, no_feature}
 use Rattle.graph.specs.OpeningLaw.{In, DependencyAt, FeatureAt, NamedAt, Stands, needs, builds, defaults, asks, plainly, switches, joins, RulesLaw}
 use Rattle.graph.proofs.FeaturePlaces.{place-some, features-differ}
 use Rattle.graph.proofs.Resolving.{place-name}

@@ -9,8 +9,8 @@ use Rattle.std.specs.Str.{bytes_eq}
 use Rattle.text.specs.Names.{Name}
 use Rattle.records.specs.Graphs.{Dependency, Feature, Part, dependency, feature, Package, Graph}
 use Rattle.records.specs.Encoding.{part_bytes, package_bytes, header_bytes, end_bytes, encode, LawfulDependency, LawfulFeature}
-use Rattle.graph.specs.Keys.{Key, is_key, has_key, most_features}
-use Rattle.graph.specs.Reading.{most_packages, most_dependencies}
+use Rattle.graph.specs.Keys.{Key, is_key, has_key}
+use Rattle.graph.specs.Limits.{most_packages, most_dependencies, most_features}
 use Rattle.graph.specs.Law.{dependencies_in, features_in, dependency_count, feature_count, LawfulPart, Differ, LawfulPackage}
 
 abbrev pub key : ℕ → List ℕ → Key

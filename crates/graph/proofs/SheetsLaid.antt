@@ -6,7 +6,7 @@ use Rattle.std.specs.List.{flat_map}
 use Rattle.graph.specs.declared.rows.Row.{Row}
 use Rattle.graph.specs.declared.sheets.Sheet.{Sheet}
 use Rattle.graph.specs.Rules.{row_words}
-use Rattle.graph.specs.Opening.{most_rows}
+use Rattle.graph.specs.Limits.{most_rows}
 use Rattle.graph.specs.Sheets.{put, laid_in, more, lay, lays}
 
 -- the count grows by one at each row, up to one past the limit

@@ -8,10 +8,10 @@ use Rattle.graph.specs.declared.faults.FileFault.{FileFault}
 use Rattle.graph.specs.declared.index.Index.{Index}
 use Rattle.graph.specs.declared.tables.Directory.{Directory}
 use Rattle.graph.specs.Law.{dependencies_in, features_in, Says}
-use Rattle.graph.specs.Places.{dependencies_of, features_of, proc_of, dependencies_before, features_before}
+use Rattle.graph.specs.Places.{dependencies_of, features_of, proc_of, dependencies_before, features_before, no_dependency, no_feature}
 use Rattle.graph.specs.Second.{Placed, placed_parts, placed_from, placed, package_record, parts_length}
 use Rattle.graph.specs.Views.{keys}
-use Rattle.graph.specs.Directory.{Stands, no_package, no_part, no_dependency, no_feature, no_placed, Accepted, Tells}
+use Rattle.graph.specs.Directory.{RecordAt, no_package, no_part, no_placed, Accepted, Tells}
 use Rattle.graph.specs.Filling.{Tables, tables_of, TellsParts, TellsGraph}
 use Rattle.graph.proofs.FirstComplete.{first-complete}
 
@@ -50,19 +50,19 @@ module _ (file : List ℕ) (t : Tables) where
 
   -- the record of dependency i stands where the table says
   abbrev DependencyAt : ℕ → List Part → ℕ → Type 0
-  DependencyAt n ps i = Stands file (get_or t.dependencies n 0) (dependency (get_or (dependencies_in ps) i no_dependency))
+  DependencyAt n ps i = RecordAt file (get_or t.dependencies n 0) (dependency (get_or (dependencies_in ps) i no_dependency))
 
   own-dependencies : (owner : ℕ) (k : ℕ → ℕ → ℕ → Type 0) (ps : List Part) (start d f : ℕ) → TellsParts file t owner k start d f ps → (i : ℕ) → i < length (dependencies_in ps) → DependencyAt (d + i) ps i
   own-dependencies owner k [] start d f h i l = absurd (omega arith)
   own-dependencies owner k (dependency x ∷ ps) start d f h zero l =
       let z : d ≡ d + 0 = omega arith in
-      subst (λ s. Stands file s (dependency x)) (sym h.2 ∙ ap (λ n. get_or t.dependencies n 0) z) h.0
+      subst (λ s. RecordAt file s (dependency x)) (sym h.2 ∙ ap (λ n. get_or t.dependencies n 0) z) h.0
   own-dependencies owner k (dependency x ∷ ps) start d f h (suc i) l =
       let z : (d + 1) + i ≡ d + suc i = omega arith in
       subst (λ n. DependencyAt n ps i) z (own-dependencies owner k ps _ (d + 1) f h.3 i (omega arith))
   own-dependencies owner k (feature x ∷ ps) start d f h i l = own-dependencies owner k ps _ d (f + 1) h.3 i l
 
-  dependencies-told : (g : Graph) (p start d f : ℕ) → TellsGraph file t p g start d f → (q i : ℕ) → i < length (dependencies_of g q) → Stands file (get_or t.dependencies (d + (dependencies_before g q + i)) 0) (dependency (get_or (dependencies_of g q) i no_dependency))
+  dependencies-told : (g : Graph) (p start d f : ℕ) → TellsGraph file t p g start d f → (q i : ℕ) → i < length (dependencies_of g q) → RecordAt file (get_or t.dependencies (d + (dependencies_before g q + i)) 0) (dependency (get_or (dependencies_of g q) i no_dependency))
   dependencies-told [] p start d f h q i l = absurd (omega arith)
   dependencies-told (a ∷ g) p start d f h zero i l =
       let z : d + i ≡ d + (0 + i) = omega arith in
@@ -70,23 +70,23 @@ module _ (file : List ℕ) (t : Tables) where
   dependencies-told (a ∷ g) p start d f h (suc q) i l =
       let m : ℕ = length (dependencies_in a.parts) in
       let z : (d + m) + (dependencies_before g q + i) ≡ d + ((m + dependencies_before g q) + i) = omega arith in
-      subst (λ n. Stands file (get_or t.dependencies n 0) (dependency (get_or (dependencies_of g q) i no_dependency))) z (dependencies-told g (p + 1) _ (d + m) _ (after-package a g p start d f h) q i l)
+      subst (λ n. RecordAt file (get_or t.dependencies n 0) (dependency (get_or (dependencies_of g q) i no_dependency))) z (dependencies-told g (p + 1) _ (d + m) _ (after-package a g p start d f h) q i l)
 
   -- the record of feature i stands where the table says
   abbrev FeatureAt : ℕ → List Part → ℕ → Type 0
-  FeatureAt n ps i = Stands file (get_or t.features n 0) (feature (get_or (features_in ps) i no_feature))
+  FeatureAt n ps i = RecordAt file (get_or t.features n 0) (feature (get_or (features_in ps) i no_feature))
 
   own-features : (owner : ℕ) (k : ℕ → ℕ → ℕ → Type 0) (ps : List Part) (start d f : ℕ) → TellsParts file t owner k start d f ps → (i : ℕ) → i < length (features_in ps) → FeatureAt (f + i) ps i
   own-features owner k [] start d f h i l = absurd (omega arith)
   own-features owner k (feature x ∷ ps) start d f h zero l =
       let z : f ≡ f + 0 = omega arith in
-      subst (λ s. Stands file s (feature x)) (sym h.2 ∙ ap (λ n. get_or t.features n 0) z) h.0
+      subst (λ s. RecordAt file s (feature x)) (sym h.2 ∙ ap (λ n. get_or t.features n 0) z) h.0
   own-features owner k (feature x ∷ ps) start d f h (suc i) l =
       let z : (f + 1) + i ≡ f + suc i = omega arith in
       subst (λ n. FeatureAt n ps i) z (own-features owner k ps _ d (f + 1) h.3 i (omega arith))
   own-features owner k (dependency x ∷ ps) start d f h i l = own-features owner k ps _ (d + 1) f h.3 i l
 
-  features-told : (g : Graph) (p start d f : ℕ) → TellsGraph file t p g start d f → (q i : ℕ) → i < length (features_of g q) → Stands file (get_or t.features (f + (features_before g q + i)) 0) (feature (get_or (features_of g q) i no_feature))
+  features-told : (g : Graph) (p start d f : ℕ) → TellsGraph file t p g start d f → (q i : ℕ) → i < length (features_of g q) → RecordAt file (get_or t.features (f + (features_before g q + i)) 0) (feature (get_or (features_of g q) i no_feature))
   features-told [] p start d f h q i l = absurd (omega arith)
   features-told (a ∷ g) p start d f h zero i l =
       let z : f + i ≡ f + (0 + i) = omega arith in
@@ -94,11 +94,11 @@ module _ (file : List ℕ) (t : Tables) where
   features-told (a ∷ g) p start d f h (suc q) i l =
       let m : ℕ = length (features_in a.parts) in
       let z : (f + m) + (features_before g q + i) ≡ f + ((m + features_before g q) + i) = omega arith in
-      subst (λ n. Stands file (get_or t.features n 0) (feature (get_or (features_of g q) i no_feature))) z (features-told g (p + 1) _ _ (f + m) (after-package a g p start d f h) q i l)
+      subst (λ n. RecordAt file (get_or t.features n 0) (feature (get_or (features_of g q) i no_feature))) z (features-told g (p + 1) _ _ (f + m) (after-package a g p start d f h) q i l)
 
   -- the table of all records, from number j on
   abbrev PartAt : ℕ → Placed → Type 0
-  PartAt j x = Stands file (get_or t.parts j no_part).start x.part × (get_or t.parts j no_part ≡ record { start = x.start; owner = x.owner })
+  PartAt j x = RecordAt file (get_or t.parts j no_part).start x.part × (get_or t.parts j no_part ≡ record { start = x.start; owner = x.owner })
 
   abbrev PartsFrom : ℕ → List Placed → Type 0
   PartsFrom j [] = Unit {0}
@@ -117,12 +117,12 @@ module _ (file : List ℕ) (t : Tables) where
   own-parts owner k [] start d f number h = tt
   own-parts owner k (dependency x ∷ ps) start d f number h =
       let z : (d + 1) + f ≡ (d + f) + 1 = omega arith in (
-        (subst (λ s. Stands file s (dependency x)) (sym (ap (λ e. e.start) h.1)) h.0, h.1),
+        (subst (λ s. RecordAt file s (dependency x)) (sym (ap (λ e. e.start) h.1)) h.0, h.1),
         subst (λ n. PartsFrom n (placed_parts (number + 1) (start + length (part_bytes (dependency x))) owner ps)) z (own-parts owner k ps (start + length (part_bytes (dependency x))) (d + 1) f (number + 1) h.3),
       )
   own-parts owner k (feature x ∷ ps) start d f number h =
       let z : d + (f + 1) ≡ (d + f) + 1 = omega arith in (
-        (subst (λ s. Stands file s (feature x)) (sym (ap (λ e. e.start) h.1)) h.0, h.1),
+        (subst (λ s. RecordAt file s (feature x)) (sym (ap (λ e. e.start) h.1)) h.0, h.1),
         subst (λ n. PartsFrom n (placed_parts (number + 1) (start + length (part_bytes (feature x))) owner ps)) z (own-parts owner k ps (start + length (part_bytes (feature x))) d (f + 1) (number + 1) h.3),
       )
 
@@ -152,17 +152,17 @@ module _ (file : List ℕ) (t : Tables) where
         let z : 0 + features_before g p ≡ features_before g p = omega arith in
         ap (λ n. get_or t.packages n no_package) x ∙ packages-told g 0 (length header_bytes) 0 0 told p l ∙ (λ i. record { proc_mark = proc_of g p; dependency = y i; feature = z i })
 
-    pub dependency-entry : (p k : ℕ) → k < length (dependencies_of g p) → Stands file (get_or t.dependencies (dependencies_before g p + k) 0) (dependency (get_or (dependencies_of g p) k no_dependency))
+    pub dependency-entry : (p k : ℕ) → k < length (dependencies_of g p) → RecordAt file (get_or t.dependencies (dependencies_before g p + k) 0) (dependency (get_or (dependencies_of g p) k no_dependency))
     dependency-entry p k l =
         let z : 0 + (dependencies_before g p + k) ≡ dependencies_before g p + k = omega arith in
-        subst (λ n. Stands file (get_or t.dependencies n 0) (dependency (get_or (dependencies_of g p) k no_dependency))) z (dependencies-told g 0 (length header_bytes) 0 0 told p k l)
+        subst (λ n. RecordAt file (get_or t.dependencies n 0) (dependency (get_or (dependencies_of g p) k no_dependency))) z (dependencies-told g 0 (length header_bytes) 0 0 told p k l)
 
-    pub feature-entry : (p k : ℕ) → k < length (features_of g p) → Stands file (get_or t.features (features_before g p + k) 0) (feature (get_or (features_of g p) k no_feature))
+    pub feature-entry : (p k : ℕ) → k < length (features_of g p) → RecordAt file (get_or t.features (features_before g p + k) 0) (feature (get_or (features_of g p) k no_feature))
     feature-entry p k l =
         let z : 0 + (features_before g p + k) ≡ features_before g p + k = omega arith in
-        subst (λ n. Stands file (get_or t.features n 0) (feature (get_or (features_of g p) k no_feature))) z (features-told g 0 (length header_bytes) 0 0 told p k l)
+        subst (λ n. RecordAt file (get_or t.features n 0) (feature (get_or (features_of g p) k no_feature))) z (features-told g 0 (length header_bytes) 0 0 told p k l)
 
-    pub part-entry : (j : ℕ) → j < length (placed g) → Stands file (get_or t.parts j no_part).start (get_or (placed g) j no_placed).part × (get_or t.parts j no_part ≡ record { start = (get_or (placed g) j no_placed).start; owner = (get_or (placed g) j no_placed).owner })
+    pub part-entry : (j : ℕ) → j < length (placed g) → RecordAt file (get_or t.parts j no_part).start (get_or (placed g) j no_placed).part × (get_or t.parts j no_part ≡ record { start = (get_or (placed g) j no_placed).start; owner = (get_or (placed g) j no_placed).owner })
     part-entry j l =
         let z : 0 + j ≡ j = omega arith in
         subst (λ n. PartAt n (get_or (placed g) j no_placed)) z (from_at 0 (placed g) (parts-told g 0 (length header_bytes) 0 0 1 told) j l)

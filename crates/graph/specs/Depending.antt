@@ -27,11 +27,12 @@ dependency_key x = record { owner = x.owner; name = x.dependency.name }
 abbrev pub Named : Index → Graph → Type 0
 Named index g = keys index ≡ reverse (map dependency_key (depending 0 g))
 
--- the dependencies among some records by package and name, the last one first
+-- package and name of a record, if it is a dependency
 abbrev pub key_if : ℕ → Part → List Key
 key_if p (dependency d) = dependency_key (owned p d) ∷ []
 key_if p (feature f) = []
 
+-- the dependencies among some records by package and name, the last one first
 abbrev pub last_keys : List Placed → List Key
 last_keys [] = []
 last_keys (x ∷ xs) = last_keys xs ++ key_if x.owner x.part

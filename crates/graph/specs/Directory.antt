@@ -1,7 +1,6 @@
 -- What a directory tells of the graph of its file.
 use Rattle.std.specs.Prelude.{◌≡◌, ℕ, ◌+◌, ◌<◌, false, List, [], ◌++◌, length, drop, Some, Ok, Err, Result, slice_index, slice_index_or}
-use Rattle.records.specs.declared.bodies.Edge.TheVariants.{Normal}
-use Rattle.records.specs.Graphs.{Dependency, Feature, Part, dependency, feature, Graph}
+use Rattle.records.specs.Graphs.{Part, dependency, feature, Graph}
 use Rattle.records.specs.Encoding.{part_bytes, encode}
 use Rattle.graph.specs.declared.contents.Counts.{Counts}
 use Rattle.graph.specs.declared.faults.FileFault.{FileFault}
@@ -14,12 +13,12 @@ use Rattle.graph.specs.Law.{LawfulPart, Says, dependency_count, feature_count}
 use Rattle.graph.specs.Depending.{Depending, owned, Named}
 use Rattle.graph.specs.Gathered.{keys_from}
 use Rattle.graph.specs.Parts.{part_in}
-use Rattle.graph.specs.Places.{dependencies_of, features_of, proc_of, dependencies_before, features_before}
+use Rattle.graph.specs.Places.{no_dependency, no_feature, dependencies_of, features_of, proc_of, dependencies_before, features_before}
 use Rattle.graph.specs.Second.{Placed, placed}
 use Rattle.graph.specs.Views.{keys}
 
 -- the record of a lawful part begins at this place of the file
-pub record Stands (file : List ℕ) (start : ℕ) (p : Part) : Type 0 where
+pub record RecordAt (file : List ℕ) (start : ℕ) (p : Part) : Type 0 where
   pub rest : List ℕ
   pub bytes : drop start file ≡ part_bytes p ++ rest
   pub lawful : LawfulPart p
@@ -30,12 +29,6 @@ no_package = record { proc_mark = false; dependency = 0; feature = 0 }
 
 abbrev pub no_part : PartEntry
 no_part = record { start = 0; owner = 0 }
-
-abbrev pub no_dependency : Dependency
-no_dependency = record { end = 0; edge = Normal; optional = false; defaults = false; name = []; asks = [] }
-
-abbrev pub no_feature : Feature
-no_feature = record { name = []; values = [] }
 
 abbrev pub no_depending : Depending
 no_depending = owned 0 no_dependency
@@ -61,9 +54,9 @@ pub record Tells (dir : Directory) (g : Graph) : Type 0 where
   pub keyed : keys dir.index ≡ keys_from 0 g
   pub counted : dir.counts ≡ record { read = length (encode g); packages = length g; dependencies = dependency_count g; features = feature_count g }
   pub packaged : (p : ℕ) → p < length g → slice_index_or dir.packages p no_package ≡ record { proc_mark = proc_of g p; dependency = dependencies_before g p; feature = features_before g p }
-  pub depending : (p k : ℕ) → k < length (dependencies_of g p) → Stands dir.index.file.now (slice_index dir.dependencies (dependencies_before g p + k)) (dependency (slice_index_or (dependencies_of g p) k no_dependency))
-  pub featuring : (p k : ℕ) → k < length (features_of g p) → Stands dir.index.file.now (slice_index dir.features (features_before g p + k)) (feature (slice_index_or (features_of g p) k no_feature))
-  pub parted : (j : ℕ) → j < length (placed g) → Stands dir.index.file.now (slice_index_or dir.parts j no_part).start (slice_index_or (placed g) j no_placed).part × (slice_index_or dir.parts j no_part ≡ record { start = (slice_index_or (placed g) j no_placed).start; owner = (slice_index_or (placed g) j no_placed).owner })
+  pub depending : (p k : ℕ) → k < length (dependencies_of g p) → RecordAt dir.index.file.now (slice_index dir.dependencies (dependencies_before g p + k)) (dependency (slice_index_or (dependencies_of g p) k no_dependency))
+  pub featuring : (p k : ℕ) → k < length (features_of g p) → RecordAt dir.index.file.now (slice_index dir.features (features_before g p + k)) (feature (slice_index_or (features_of g p) k no_feature))
+  pub parted : (j : ℕ) → j < length (placed g) → RecordAt dir.index.file.now (slice_index_or dir.parts j no_part).start (slice_index_or (placed g) j no_placed).part × (slice_index_or dir.parts j no_part ≡ record { start = (slice_index_or (placed g) j no_placed).start; owner = (slice_index_or (placed g) j no_placed).owner })
 
 -- what a reading answers, with the directory that it leaves
 abbrev pub ReadAs : List ℕ → Result (Unit {0}) FileFault → Directory → Type 0

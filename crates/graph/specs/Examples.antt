@@ -12,7 +12,7 @@ use Rattle.graph.specs.declared.rows.Opened.{Opened}
 use Rattle.graph.specs.Law.{dependency_count, feature_count}
 use Rattle.graph.specs.Opening.{over, open_graph}
 use Rattle.graph.specs.Refusals.{refusal_of}
-use Rattle.graph.specs.Rules.{graph_words}
+use Rattle.graph.specs.Rules.{none, graph_words}
 
 -- app, with a feature default that turns on the feature of a name
 abbrev pub app : List ℕ → Package
@@ -53,12 +53,9 @@ example = app (codes "io") ∷ core ∷ gen ∷ []
 abbrev pub misnamed : Graph
 misnamed = app (codes "ip") ∷ core ∷ gen ∷ []
 
--- its counts; and its words: the counts, then the rows, each from, with, to, lane, cross
+-- the counts of the example; and its words: the counts, then the rows, each from, with, to, lane, cross
 abbrev pub example_opened : Opened
 example_opened = record { read = 173; packages = 3; dependencies = 3; features = 4; rows = 10 }
-
-abbrev pub none : ℕ
-none = 4294967295
 
 abbrev pub example_words : List ℕ
 example_words =

@@ -6,15 +6,10 @@ use Rattle.records.specs.Encoding.{part_bytes, package_bytes, header_bytes, end_
 use Rattle.graph.specs.declared.tables.PackageEntry.{PackageEntry}
 use Rattle.graph.specs.declared.tables.PartEntry.{PartEntry}
 use Rattle.graph.specs.declared.tables.Directory.{Directory}
-use Rattle.graph.specs.Keys.{most_features}
-use Rattle.graph.specs.Reading.{most_packages, most_dependencies}
+use Rattle.graph.specs.Limits.{most_packages, most_dependencies, most_features, most_parts}
 use Rattle.graph.specs.Law.{dependencies_in, features_in, dependency_count, feature_count, LawfulPart, LawfulPackage, Says}
 use Rattle.graph.specs.Second.{package_record}
-use Rattle.graph.specs.Directory.{Stands, no_package, no_part}
-
--- how many dependencies and features together the tables have room for
-abbrev pub most_parts : ℕ
-most_parts = 32768
+use Rattle.graph.specs.Directory.{RecordAt, no_package, no_part}
 
 -- whether the first byte is 1
 abbrev pub marked : List ℕ → Bool
@@ -34,12 +29,12 @@ tables_of dir = record { packages = dir.packages; dependencies = dir.dependencie
 abbrev pub TellsParts : List ℕ → Tables → ℕ → (ℕ → ℕ → ℕ → Type 0) → ℕ → ℕ → ℕ → List Part → Type 0
 TellsParts file t owner k start d f [] = k start d f
 TellsParts file t owner k start d f (dependency x ∷ ps) =
-    Stands file start (dependency x)
+    RecordAt file start (dependency x)
     × (slice_index_or t.parts (d + f) no_part ≡ record { start = start; owner = owner })
     × (slice_index t.dependencies d ≡ start)
     × TellsParts file t owner k (start + length (part_bytes (dependency x))) (d + 1) f ps
 TellsParts file t owner k start d f (feature x ∷ ps) =
-    Stands file start (feature x)
+    RecordAt file start (feature x)
     × (slice_index_or t.parts (d + f) no_part ≡ record { start = start; owner = owner })
     × (slice_index t.features f ≡ start)
     × TellsParts file t owner k (start + length (part_bytes (feature x))) d (f + 1) ps

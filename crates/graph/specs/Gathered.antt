@@ -5,7 +5,8 @@ use Rattle.graph.specs.declared.contents.Counts.{Counts}
 use Rattle.graph.specs.declared.faults.FileFault.{FileFault}
 use Rattle.graph.specs.declared.faults.FileFault.TheVariants.{Size}
 use Rattle.graph.specs.Keys.{Key}
-use Rattle.graph.specs.Reading.{Stand, begin, Reading, scan, most_bytes}
+use Rattle.graph.specs.Reading.{Stand, begin, Reading, scan}
+use Rattle.graph.specs.Limits.{most_bytes}
 use Rattle.graph.specs.Law.{dependencies_in, dependency_count}
 
 -- the features of a package, and those of packages numbered from p on

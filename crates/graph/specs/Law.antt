@@ -1,11 +1,10 @@
 -- Lawful graphs, and which files say one.
-use Rattle.std.specs.Prelude.{◌≡◌, ℕ, ◌+◌, ◌≤◌, List, [], ◌∷◌, ◌++◌, length, Ok, ◌≢◌}
+use Rattle.std.specs.Prelude.{◌≡◌, ℕ, ◌+◌, ◌≤◌, List, [], ◌∷◌, ◌++◌, length, ◌≢◌}
 use Rattle.std.specs.List.{AllByRecursion}
 use Rattle.text.specs.Names.{Name}
 use Rattle.records.specs.Graphs.{Dependency, Feature, Part, dependency, feature, Package, Graph}
 use Rattle.records.specs.Encoding.{encode, LawfulDependency, LawfulFeature}
-use Rattle.graph.specs.Reading.{most_bytes, most_packages, most_dependencies, first_reading}
-use Rattle.graph.specs.Keys.{most_features}
+use Rattle.graph.specs.Limits.{most_bytes, most_packages, most_dependencies, most_features}
 
 -- the dependencies and the features among the parts of a package, in order
 abbrev pub dependencies_in : List Part → List Dependency
@@ -39,21 +38,17 @@ Differ (f ∷ fs) = AllByRecursion (λ h. h.name ≢ f.name) fs × Differ fs
 abbrev pub LawfulPackage : Package → Type 0
 LawfulPackage p = Name p.name × AllByRecursion LawfulPart p.parts × Differ (features_in p.parts)
 
--- names and strings are lawful, no package has a feature twice, and the limits are kept
+-- names and strings are lawful, no package has a feature twice, and the limits are kept; whether what the graph refers to is
+-- there, is another matter
 pub record Lawful (g : Graph) : Type 0 where
   pub packages : AllByRecursion LawfulPackage g
   pub few_packages : length g ≤ most_packages
   pub few_dependencies : dependency_count g ≤ most_dependencies
   pub few_features : feature_count g ≤ most_features
 
--- the file begins with the bytes of this lawful graph
+-- the file begins with the bytes of this lawful graph, and is no longer than may be
 pub record Says (file : List ℕ) (g : Graph) : Type 0 where
   pub rest : List ℕ
   pub lawful : Lawful g
   pub bytes : file ≡ encode g ++ rest
   pub size : length file ≤ most_bytes
-
--- the first reading accepts just the files that say a lawful graph, and answers it and the length of its bytes
-pub record FirstLaw (file : List ℕ) : Type 0 where
-  pub sound : (g : Graph) (n : ℕ) → first_reading file ≡ Ok (g, n) → Says file g × (n ≡ length (encode g))
-  pub complete : (g : Graph) → Says file g → first_reading file ≡ Ok (g, length (encode g))

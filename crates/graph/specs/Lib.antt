@@ -1,3 +1,4 @@
+pub mod Limits
 pub mod Keys
 pub mod Reading
 pub mod Law
@@ -10,6 +11,7 @@ pub mod Opening
 pub mod Depending
 pub mod Directory
 pub mod OpeningLaw
+pub mod Buckets
 pub mod Filling
 pub mod Sheets
 pub mod Parts

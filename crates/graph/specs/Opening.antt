@@ -6,13 +6,10 @@ use Rattle.graph.specs.declared.faults.FileFault.{FileFault}
 use Rattle.graph.specs.declared.faults.FileFault.TheVariants.{Record, Rows, Memory}
 use Rattle.graph.specs.declared.rows.Opened.{Opened}
 use Rattle.graph.specs.Reading.{first_reading}
+use Rattle.graph.specs.Limits.{most_rows, head_words, row_width}
 use Rattle.graph.specs.Law.{dependency_count, feature_count}
 use Rattle.graph.specs.Rules.{rows, graph_words}
 use Rattle.graph.specs.Second.{second_reading}
-
--- the most rule rows of a graph
-abbrev pub most_rows : ℕ
-most_rows = 262144
 
 -- words in the place of as many at the front
 abbrev pub over : List ℕ → List ℕ → List ℕ
@@ -33,7 +30,7 @@ on_graph (Err e) k = Err e
 abbrev pub laid_for : Graph → ℕ → List ℕ → Result (Opened × List ℕ) FileFault
 laid_for g n words =
     cond (nat_lt most_rows (length (rows g))) (Err Rows)
-    (cond (nat_lt (length words) (4 + 5 * length (rows g))) (Err Memory)
+    (cond (nat_lt (length words) (head_words + row_width * length (rows g))) (Err Memory)
     (Ok (opened_as g n, over (graph_words g) words)))
 
 -- both readings, then the rows

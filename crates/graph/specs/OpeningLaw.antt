@@ -1,16 +1,20 @@
 -- Opening accepts exactly the lawful graphs, and lays down exactly their rules.
-use Rattle.std.specs.Prelude.{◌≡◌, ℕ, ◌+◌, ◌*◌, ◌<◌, ◌≤◌, true, false, ◌⊎◌, List, [], ◌∷◌, length, Some, None, Ok, codes, Result, slice_index_or}
+use Rattle.std.specs.Prelude.{◌≡◌, ℕ, ◌+◌, ◌*◌, ◌<◌, ◌≤◌, true, false, ◌⊎◌, List, [], ◌∷◌, length, Some, None, Ok, Err, codes, Result, slice_index_or}
 use Rattle.std.specs.List.{AllByRecursion}
 use Rattle.text.specs.Forms.{Form, plain, switch, strong, weak}
-use Rattle.records.specs.Graphs.{Dependency, Feature, Graph}
+use Rattle.records.specs.declared.faults.RecordFault.{RecordFault}
+use Rattle.records.specs.declared.faults.RecordFault.TheVariants.{Cut, Stray, Ragged, Mark, Text, Twice, Unknown, Many}
+use Rattle.records.specs.Graphs.{Dependency, Feature, Part, dependency, feature, Graph}
 use Rattle.records.specs.Encoding.{encode}
 use Rattle.graph.specs.declared.faults.FileFault.{FileFault}
+use Rattle.graph.specs.declared.faults.FileFault.TheVariants.{Record, Size, Rows, Memory}
 use Rattle.graph.specs.declared.rows.Opened.{Opened}
 use Rattle.graph.specs.Law.{Says}
-use Rattle.graph.specs.Directory.{no_dependency, no_feature}
-use Rattle.graph.specs.Places.{unit, dep, feat, dependencies_of, features_of}
+use Rattle.graph.specs.Places.{unit, dep, feat, dependencies_of, features_of, no_dependency, no_feature}
 use Rattle.graph.specs.Rules.{Rule, lane_of, rules, rows, graph_words}
-use Rattle.graph.specs.Opening.{most_rows, over, opened_as}
+use Rattle.graph.specs.Opening.{over, opened_as}
+use Rattle.graph.specs.Second.{Placed, placed}
+use Rattle.graph.specs.Limits.{most_bytes, most_rows, head_words, row_width}
 
 -- x is one of these: by recursion, and not by a place as the library's `Contains`, so that each rule's case takes it apart
 abbrev pub In : {A : Type 0} → A → List A → Type 0
@@ -56,13 +60,53 @@ pub record Opens (file words : List ℕ) (g : Graph) : Type 0 where
   pub says : Says file g
   pub resolved : Resolved g
   pub few : length (rows g) ≤ most_rows
-  pub room : 4 + 5 * length (rows g) ≤ length words
+  pub room : head_words + row_width * length (rows g) ≤ length words
 
--- opening accepts exactly such a file, as that graph, of which there is one
+-- what this dependency or feature of package p refers to is there
+abbrev pub Refers : Graph → ℕ → Part → Type 0
+Refers g p (dependency d) = (d.end < length g) × AllByRecursion (HasFeature g d.end) d.asks
+Refers g p (feature f) = AllByRecursion (Resolves g p) f.values
+
+-- the file says no lawful graph
+abbrev pub SaysNone : List ℕ → Type 0
+SaysNone file = (g : Graph) → Says file g → ⊥
+
+-- the file says a graph, and something that the record at this place refers to is not there
+pub record RefersAmiss (file : List ℕ) (number start : ℕ) : Type 0 where
+  pub graph : Graph
+  pub says : Says file graph
+  pub at : Placed
+  pub among : In at (placed graph)
+  pub number_is : number ≡ at.number
+  pub start_is : start ≡ at.start
+  pub amiss : Refers graph at.owner at.part → ⊥
+
+-- what a file lacks that is refused for a record: with Unknown, something that this record refers to, and with all other
+-- faults, a lawful graph
+abbrev pub RecordLacks : List ℕ → ℕ → ℕ → RecordFault → Type 0
+RecordLacks file number start (Unknown field) = RefersAmiss file number start
+RecordLacks file number start Cut = SaysNone file
+RecordLacks file number start Stray = SaysNone file
+RecordLacks file number start (Ragged field) = SaysNone file
+RecordLacks file number start (Mark field) = SaysNone file
+RecordLacks file number start (Text found) = SaysNone file
+RecordLacks file number start (Twice field) = SaysNone file
+RecordLacks file number start Many = SaysNone file
+
+-- what a file or the words lack where opening is refused so
+abbrev pub Lacks : List ℕ → List ℕ → FileFault → Type 0
+Lacks file words Size = most_bytes < length file
+Lacks file words (Record x) = RecordLacks file x.number x.start x.fault
+Lacks file words Rows = (g : Graph) × Says file g × Resolved g × (most_rows < length (rows g))
+Lacks file words Memory = (g : Graph) × Says file g × Resolved g × (length (rows g) ≤ most_rows) × (length words < head_words + row_width * length (rows g))
+
+-- Opening accepts exactly such a file, as that graph, of which there is one; where it is refused, just what the refusal
+-- tells is lacking.
 pub record OpeningLaw (file words : List ℕ) (r : Result (Opened × List ℕ) FileFault) : Type 0 where
   pub sound : (o : Opened) (ws : List ℕ) → r ≡ Ok (o, ws) → (g : Graph) × Opens file words g × (o ≡ opened_as g (length (encode g))) × (ws ≡ over (graph_words g) words)
   pub complete : (g : Graph) → Opens file words g → r ≡ Ok (opened_as g (length (encode g)), over (graph_words g) words)
   pub once : (g h : Graph) → Says file g → Says file h → g ≡ h
+  pub refused : (e : FileFault) → r ≡ Err e → Lacks file words e
 
 -- Which rules stand.
 pub data Stands (g : Graph) : Rule → Type 0 where

@@ -1,5 +1,6 @@
 -- Items of a graph by place, and their numbers.
 use Rattle.std.specs.Prelude.{ℕ, zero, suc, ◌+◌, Bool, false, List, [], ◌∷◌, length}
+use Rattle.records.specs.declared.bodies.Edge.TheVariants.{Normal}
 use Rattle.records.specs.Graphs.{Dependency, Feature, Part, Graph}
 use Rattle.graph.specs.Law.{dependencies_in, features_in, dependency_count, feature_count}
 
@@ -20,6 +21,13 @@ dependencies_of g p = dependencies_in (parts_of g p)
 
 abbrev pub features_of : Graph → ℕ → List Feature
 features_of g p = features_in (parts_of g p)
+
+-- what is read of a list beyond its end
+abbrev pub no_dependency : Dependency
+no_dependency = record { end = 0; edge = Normal; optional = false; defaults = false; name = []; asks = [] }
+
+abbrev pub no_feature : Feature
+no_feature = record { name = []; values = [] }
 
 -- whether package p is a procedural macro
 abbrev pub proc_of : Graph → ℕ → Bool

@@ -12,17 +12,8 @@ use Rattle.records.specs.Graphs.{Feature, Part, dependency, feature, Graph}
 use Rattle.graph.specs.declared.faults.InRecord.{InRecord}
 use Rattle.graph.specs.declared.faults.FileFault.{FileFault}
 use Rattle.graph.specs.declared.faults.FileFault.TheVariants.{Record, Size}
-use Rattle.graph.specs.Keys.{Key, has_key, most_features}
-
--- the limits of a graph file
-abbrev pub most_bytes : ℕ
-most_bytes = 1048576
-
-abbrev pub most_packages : ℕ
-most_packages = 4096
-
-abbrev pub most_dependencies : ℕ
-most_dependencies = 16384
+use Rattle.graph.specs.Keys.{Key, has_key}
+use Rattle.graph.specs.Limits.{most_bytes, most_packages, most_dependencies, most_features}
 
 -- what a record says
 pub data Content : Type 0 where
@@ -53,7 +44,7 @@ kind_here number packages k =
     (cond (k == 3) (Some kind.Dependency)
     (cond (k == 4) (Some kind.Feature) None)))))
 
--- one of its kind more would pass the limit
+-- a record's answer, or Many if there are as many of its kind as may be
 abbrev pub below : {B : Type 0} → ℕ → ℕ → Result B RecordFault → Result B RecordFault
 below n limit r = cond (nat_le limit n) (Err Many) r
 

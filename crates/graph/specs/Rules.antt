@@ -24,11 +24,12 @@ pub record Rule : Type 0 where
 abbrev pub lane_of : Graph → Dependency → Lane
 lane_of g d = record { edge = d.edge; procedural = proc_of g d.end }
 
--- the place of a name among some features
+-- one place further on
 abbrev pub later : Option ℕ → Option ℕ
 later None = None
 later (Some k) = Some (suc k)
 
+-- the place of a name among some features
 abbrev pub place_of : List Feature → List ℕ → Option ℕ
 place_of [] n = None
 place_of (f ∷ fs) n = cond (bytes_eq f.name n) (Some 0) (later (place_of fs n))

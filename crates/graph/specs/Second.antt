@@ -1,12 +1,14 @@
 -- The second reading: everything that is named is there.
-use Rattle.std.specs.Prelude.{ℕ, ◌+◌, Bool, true, false, cond, ◌&&◌, ◌||◌, List, [], ◌∷◌, ◌++◌, length, is_some, Some, None, Ok, Err, Option, Result, nat_lt}
+use Rattle.std.specs.Prelude.{ℕ, ◌+◌, Bool, true, false, cond, ◌&&◌, ◌||◌, List, [], ◌∷◌, ◌++◌, length, is_some, Ok, Err, Result, nat_lt}
 use Rattle.std.specs.Str.{bytes_eq}
 use Rattle.text.specs.Forms.{Form, plain, switch, strong, weak, spell}
+use Rattle.records.specs.declared.faults.RecordFault.{RecordFault}
 use Rattle.records.specs.declared.faults.RecordFault.TheVariants.{Unknown}
 use Rattle.records.specs.Graphs.{Dependency, Feature, Part, dependency, feature, Package, Graph}
 use Rattle.records.specs.Encoding.{record_bytes, package_body, part_bytes, header_bytes}
 use Rattle.graph.specs.declared.faults.InRecord.{InRecord}
 use Rattle.graph.specs.Places.{dependencies_of, features_of}
+use Rattle.graph.specs.Limits.{end_place, dependency_name_place, feature_name_place}
 use Rattle.graph.specs.Rules.{place_of}
 
 -- a dependency or feature record: its number, its start in the file, its package, and what it says
@@ -59,41 +61,42 @@ known g p (switch n) = has_dependency (dependencies_of g p) n
 known g p (strong n x) = has_dependency (dependencies_of g p) n && ends_have g (dependencies_of g p) n x
 known g p (weak n x) = has_dependency (dependencies_of g p) n && ends_have g (dependencies_of g p) n x
 
--- the place of the first unknown one of some strings, which begin at a place of their record
-abbrev pub first_unknown : {A : Type 0} → (A → Bool) → (A → ℕ) → ℕ → List A → Option ℕ
-first_unknown test size at [] = None
-first_unknown test size at (x ∷ xs) = cond (test x) (first_unknown test size ((at + 1) + size x) xs) (Some (at + 1))
+-- all of some strings, which begin at a place of their record, are known; each stands behind its length byte
+abbrev pub all_known : {A : Type 0} → (A → Bool) → (A → ℕ) → ℕ → List A → Result (Unit {0}) RecordFault
+all_known test size at [] = Ok tt
+all_known test size at (x ∷ xs) = cond (test x) (all_known test size ((at + 1) + size x) xs) (Err (Unknown (at + 1)))
 
--- the place in its record of what a dependency or feature names and is not there; its asks begin after 12 bytes, its
--- name and the count, its values after 7 bytes, its name and the count
-abbrev pub unknown_in : Graph → ℕ → Part → Option ℕ
-unknown_in g p (dependency d) = first_unknown (has_feature (features_of g d.end)) length ((12 + length d.name) + 1) d.asks
-unknown_in g p (feature f) = first_unknown (known g p) (λ v. length (spell v)) ((7 + length f.name) + 1) f.values
+-- what a dependency or feature of package p names is there; its asks or values begin after its name and the count
+abbrev pub names_known : Graph → ℕ → Part → Result (Unit {0}) RecordFault
+names_known g p (dependency d) = all_known (has_feature (features_of g d.end)) length ((dependency_name_place + length d.name) + 1) d.asks
+names_known g p (feature f) = all_known (known g p) (λ v. length (spell v)) ((feature_name_place + length f.name) + 1) f.values
 
--- the end of a dependency is a package; it stands at place 6
-abbrev pub unknown_end : Graph → Part → Option ℕ
-unknown_end g (dependency d) = cond (nat_lt d.end (length g)) None (Some 6)
-unknown_end g (feature f) = None
+-- the end of a dependency is a package
+abbrev pub end_known : Graph → Part → Result (Unit {0}) RecordFault
+end_known g (dependency d) = cond (nat_lt d.end (length g)) (Ok tt) (Err (Unknown end_place))
+end_known g (feature f) = Ok tt
+
+-- a record's fault, with the record's number and start, comes before those of the records after it
+abbrev pub or_after : Placed → Result (Unit {0}) RecordFault → Result (Unit {0}) InRecord → Result (Unit {0}) InRecord
+or_after x (Ok u) r = r
+or_after x (Err e) r = Err (record { number = x.number; start = x.start; fault = e })
 
 -- the first fault of some records
-abbrev pub fault_at : Placed → Option ℕ → Result (Unit {0}) InRecord → Result (Unit {0}) InRecord
-fault_at x None r = r
-fault_at x (Some field) r = Err (record { number = x.number; start = x.start; fault = Unknown field })
-
-abbrev pub checked : (Placed → Option ℕ) → List Placed → Result (Unit {0}) InRecord
+abbrev pub checked : (Placed → Result (Unit {0}) RecordFault) → List Placed → Result (Unit {0}) InRecord
 checked test [] = Ok tt
-checked test (x ∷ xs) = fault_at x (test x) (checked test xs)
+checked test (x ∷ xs) = or_after x (test x) (checked test xs)
 
 abbrev pub ends : Graph → List Placed → Result (Unit {0}) InRecord
-ends g = checked (λ x. unknown_end g x.part)
+ends g = checked (λ x. end_known g x.part)
 
 abbrev pub references : Graph → List Placed → Result (Unit {0}) InRecord
-references g = checked (λ x. unknown_in g x.owner x.part)
+references g = checked (λ x. names_known g x.owner x.part)
 
--- all ends, then all asks and feature strings
+-- one check, and then another
 abbrev pub then_check : Result (Unit {0}) InRecord → Result (Unit {0}) InRecord → Result (Unit {0}) InRecord
 then_check (Ok u) r = r
 then_check (Err e) r = Err e
 
+-- all ends, then all asks and feature strings
 abbrev pub second_reading : Graph → Result (Unit {0}) InRecord
 second_reading g = then_check (ends g (placed g)) (references g (placed g))

@@ -4,14 +4,15 @@ use Rattle.std.specs.Borrow.{MutBor}
 use Rattle.graph.specs.declared.rows.Row.{Row}
 use Rattle.graph.specs.declared.sheets.Sheet.{Sheet}
 use Rattle.graph.specs.Rules.{row_words}
-use Rattle.graph.specs.Opening.{most_rows}
+use Rattle.graph.specs.Limits.{most_rows, head_words, row_width}
 
--- five words at a place, where there is room for them
+-- five words in the place of as many
 abbrev pub put : List ℕ → ℕ → List ℕ → List ℕ
-put ws at five = take at ws ++ (five ++ drop (at + 5) ws)
+put ws at five = take at ws ++ (five ++ drop (at + row_width) ws)
 
+-- the words of row n, where there is room for them
 abbrev pub laid_in : List ℕ → ℕ → Row → List ℕ
-laid_in ws n r = cond (nat_le ((4 + 5 * n) + 5) (length ws)) (put ws (4 + 5 * n) (row_words r)) ws
+laid_in ws n r = cond (nat_le ((head_words + row_width * n) + row_width) (length ws)) (put ws (head_words + row_width * n) (row_words r)) ws
 
 -- the count stops one past the limit
 abbrev pub more : ℕ → ℕ

@@ -12,7 +12,9 @@ use Rattle.graph.specs.declared.contents.Found as found
 use Rattle.graph.specs.declared.contents.Stand as stand
 use Rattle.graph.specs.declared.index.Index.{Index}
 use Rattle.graph.specs.declared.faults.InRecord.{InRecord}
-use Rattle.graph.specs.Keys.{Key, keys_of, most_features}
+use Rattle.graph.specs.Keys.{Key}
+use Rattle.graph.specs.Buckets.{keys_of}
+use Rattle.graph.specs.Limits.{most_features}
 use Rattle.graph.specs.Reading.{Content, header, heads, part, end, Stand, Found}
 
 abbrev pub content_view : code.Content → Content

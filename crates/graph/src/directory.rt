@@ -6,7 +6,8 @@ ghost use Rattle.records.specs.Encoding.{Bytes};
 ghost use Rattle.records.specs.Graphs.{Graph, Part};
 ghost use Rattle.graph.specs.Depending.{key_if, last_keys};
 ghost use Rattle.graph.specs.Directory.{Places, Accepted, Tells, ReadAs};
-ghost use Rattle.graph.specs.Keys.{key_view};
+ghost use Rattle.graph.specs.Buckets.{key_view};
+ghost use Rattle.graph.specs.Limits.{most_dependencies, most_parts};
 ghost use Rattle.graph.specs.Parts.{part_in};
 ghost use Rattle.graph.specs.Rules.{when_some};
 ghost use Rattle.graph.specs.Second.{Placed};
@@ -54,7 +55,7 @@ fn name_dependencies<'a>(
     file: &'a [u8],
 )
     requires new { named.old.lists.count ≡ 0 }
-    requires told { (xs : List Placed) × Places file.now parts.now count xs × (count ≤ 32768) × (length (last_keys xs) ≤ 16384) }
+    requires told { (xs : List Placed) × Places file.now parts.now count xs × (count ≤ most_parts) × (length (last_keys xs) ≤ most_dependencies) }
     ensures { (xs : List Placed) → Places file.now parts.now count xs → keys named.new ≡ last_keys xs }
 {
     for entry in parts[..count].iter().rev() {
@@ -135,7 +136,7 @@ impl<'a> Directory<'a> {
     }
 
     // Fills the tables from the file, which the first reading has accepted with this index and these counts. It walks
-    // the records again, by the same `first_frame`, and refuses nothing, so that one walk for both would be none.
+    // the records again, by the same `first_frame`, and refuses nothing, so that nothing is refused twice.
     fn fill(&mut self)
         requires { (g : Graph) × Accepted self.old.index self.old.counts g }
         ensures told { (g : Graph) → Accepted self.old.index self.old.counts g → Tells self.new g }

@@ -1,6 +1,7 @@
 // An index of the features, or of the dependencies, of a graph file, by package and name.
 ghost use Rattle.std.specs.Prelude.{◌≤◌};
-ghost use Rattle.graph.specs.Keys.{Linked};
+ghost use Rattle.graph.specs.Buckets.{Linked};
+ghost use Rattle.graph.specs.Limits.{most_features};
 ghost use Rattle.std.proofs.Props.{props};
 
 // The most features of a graph.
@@ -8,6 +9,9 @@ pub const MAX_FEATURES: usize = 16_384;
 
 // How many lists the entries are spread over.
 pub const BUCKETS: usize = 32_749;
+
+// By what the hash grows with each byte of a name.
+pub const FACTOR: usize = 263;
 
 // What an entry is found by: the number of its package, and its name.
 #[derive(Clone, Copy, PartialEq, Eq)]
@@ -39,6 +43,6 @@ pub struct Lists<'a> {
 pub struct Index<'a> {
     pub file: &'a [u8],
     pub lists: Lists<'a>,
-    ghost few: { lists.count ≤ 16384 },
+    ghost few: { lists.count ≤ most_features },
     ghost linked: { Linked lists.entries lists.heads lists.count } by { Prim.hlevel props },
 }

@@ -1,26 +1,28 @@
 // Finding features and dependencies in an index, and adding to it.
 ghost use Rattle.std.specs.Prelude.{◌≡◌, ℕ, ◌+◌, ◌<◌, [], ◌∷◌, ◌++◌, length, nat_le};
-ghost use Rattle.graph.specs.Keys.{is_key, has_key, key_of, key_view, keys_of, entry_at, bucket_of, most_features, past, Linked, newest_of, IsEntry, InBucket};
+ghost use Rattle.graph.specs.Keys.{is_key, has_key};
+ghost use Rattle.graph.specs.Buckets.{buckets, key_of, key_view, keys_of, entry_at, bucket_of, past, Linked, newest_of, IsEntry, InBucket};
+ghost use Rattle.graph.specs.Limits.{most_features};
 
-use crate::index::{BUCKETS, Entry, Index, Key, Lists, MAX_FEATURES};
+use crate::index::{BUCKETS, Entry, FACTOR, Index, Key, Lists, MAX_FEATURES};
 
 // The bucket of a key.
 fn bucket(key: Key<'_>) -> usize
     ensures value { result ≡ bucket_of key.entry.owner key.entry.name.now }
-    ensures below { result < 32749 }
+    ensures below { result < buckets }
 {
     key.name.iter().fold(
         key.owner as usize % BUCKETS,
         |h, b|
-            requires { h < 32749 }
-        { (h * 263 + usize::from(*b)) % BUCKETS },
+            requires { h < buckets }
+        { (h * FACTOR + usize::from(*b)) % BUCKETS },
     )
 }
 
 impl<'a> Lists<'a> {
     // One entry more.
     fn add(&mut self, key: Key<'a>)
-        requires room { self.old.count < 16384 }
+        requires room { self.old.count < most_features }
         requires linked { Linked self.old.entries self.old.heads self.old.count }
         ensures count { self.new.count ≡ self.old.count + 1 }
         ensures keys { keys_of self.new.entries self.new.count ≡ keys_of self.old.entries self.old.count ++ key_view key.entry ∷ [] }
@@ -109,7 +111,7 @@ impl<'a> Index<'a> {
 
     // One entry more.
     pub(crate) fn add(&mut self, key: Key<'a>)
-        requires room { self.old.lists.count < 16384 }
+        requires room { self.old.lists.count < most_features }
         ensures file { self.new.file.now ≡ self.old.file.now }
         ensures count { self.new.lists.count ≡ self.old.lists.count + 1 }
         ensures keys { keys_of self.new.lists.entries self.new.lists.count ≡ keys_of self.old.lists.entries self.old.lists.count ++ key_view key.entry ∷ [] }

@@ -1,6 +1,6 @@
 // The dependencies of a package that have one name.
 ghost use Rattle.std.specs.Option.{ForSome};
-ghost use Rattle.graph.specs.Keys.{IsEntry};
+ghost use Rattle.graph.specs.Buckets.{IsEntry};
 
 use crate::filled::Filled;
 use crate::index::Key;

@@ -1,9 +1,10 @@
 // Where the records of a graph stand, and what they are.
 ghost use Rattle.std.specs.Prelude.{◌≡◌, ℕ, ◌+◌, ◌-◌, ◌<◌, ◌≤◌, length, take, drop, slice_index, slice_index_or, Some};
 ghost use Rattle.records.specs.Graphs.{Part, dependency, feature};
-ghost use Rattle.graph.specs.Directory.{no_dependency, no_feature, no_part, no_placed};
+ghost use Rattle.graph.specs.Directory.{no_part, no_placed};
+ghost use Rattle.graph.specs.Limits.{most_local_items};
 ghost use Rattle.graph.specs.Laying.{its, ReadsAs, PlacedAs};
-ghost use Rattle.graph.specs.Places.{dep, feat, dependencies_of, features_of, proc_of, number, dependencies_before, features_before};
+ghost use Rattle.graph.specs.Places.{dep, feat, dependencies_of, features_of, proc_of, number, dependencies_before, features_before, no_dependency, no_feature};
 ghost use Rattle.graph.specs.Rules.{on_some, place_of};
 ghost use Rattle.graph.specs.Second.{has_feature, placed};
 ghost use Rattle.graph.specs.Views.{owned_view};
@@ -17,7 +18,7 @@ use crate::tables::{PackageEntry, PartEntry, Starts};
 // The records of a table from one number to another.
 fn between<'a>(first: u32, table: &'a [u32], from: u32, to: u32) -> Starts<'a>
     requires within { (from ≤ to) × (to ≤ length table.now) }
-    requires few { first + (to - from) ≤ 36864 }
+    requires few { first + (to - from) ≤ most_local_items }
     ensures first { result.first ≡ first }
     ensures starts { result.starts.now ≡ take (to - from) (drop from table.now) }
 {

@@ -6,6 +6,7 @@ ghost use Rattle.records.specs.Frames.{frame as frame_view};
 ghost use Rattle.records.specs.Fields.{view, outcome_by};
 ghost use Rattle.records.specs.Bodies.{feature_view};
 ghost use Rattle.graph.specs.Reading.{kind_here, feature_field, content_of, record_at, is_end, after};
+ghost use Rattle.graph.specs.Limits.{most_bytes};
 ghost use Rattle.graph.specs.Gathered.{gathered_by, gathered_in, Featured};
 ghost use Rattle.graph.specs.Views.{content_view, found_view, stand_view, keys, Fits, located as located_in};
 
@@ -18,7 +19,8 @@ use records::faults::RecordFault;
 use records::frames::{Frame, Kind, first_frame};
 use records::reader::Reader;
 
-const MAX_BYTES: usize = 1_048_576;
+// The most bytes of a file.
+pub const MAX_BYTES: usize = 1_048_576;
 
 // The kind of a record, if it may stand here.
 fn kind_here(number: usize, packages: u32, kind: u16) -> Result<Kind, RecordFault>
@@ -117,7 +119,7 @@ fn read_record<'a>(index: &Index<'a>, stand: Stand, bytes: &'a [u8]) -> Result<F
 // How the reading stands after a record. A feature goes into the index.
 fn noted<'a>(index: &mut Index<'a>, stand: Stand, found: Found<'a>) -> Stand
     requires fits { Fits index.old.lists.count found.content }
-    requires small { (stand.start + (length found.frame.body.now + 6) ≤ 1048576) × (stand.number ≤ 1048576) × (stand.packages ≤ 1048576) × (stand.dependencies ≤ 1048576) × (length index.old.file.now ≤ 1048576) }
+    requires small { (stand.start + (length found.frame.body.now + 6) ≤ most_bytes) × (stand.number ≤ most_bytes) × (stand.packages ≤ most_bytes) × (stand.dependencies ≤ most_bytes) × (length index.old.file.now ≤ most_bytes) }
     ensures stand { stand_view result (keys index.new) ≡ after (stand_view stand (keys index.old)) (found_view found.entry) }
     ensures file { index.new.file.now ≡ index.old.file.now }
 {

@@ -1,5 +1,6 @@
 // Laying rule rows into words.
 ghost use Rattle.std.specs.Prelude.{◌≡◌, ◌+◌, ◌≤◌, length};
+ghost use Rattle.graph.specs.Limits.{row_width};
 ghost use Rattle.graph.specs.Rules.{row_words};
 ghost use Rattle.graph.specs.Sheets.{put, lay};
 
@@ -16,7 +17,7 @@ pub(crate) struct Sheet<'w> {
 
 // The words of a row, at a place.
 fn put_row(words: &mut [u32], at: usize, row: Row)
-    requires { at + 5 ≤ length words.old }
+    requires { at + row_width ≤ length words.old }
     ensures { words.new ≡ put words.old at (row_words row) }
 {
     words[at..at + WIDTH].copy_from_slice(&<[u32; WIDTH]>::from(row));

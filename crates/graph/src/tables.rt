@@ -1,5 +1,6 @@
 // The tables of a directory.
 ghost use Rattle.std.specs.Prelude.{◌+◌, ◌≤◌, length};
+ghost use Rattle.graph.specs.Limits.{most_local_items};
 
 use crate::contents::Counts;
 use crate::index::{Index, MAX_FEATURES};
@@ -32,13 +33,14 @@ pub(crate) struct PartEntry {
 pub(crate) struct Starts<'a> {
     pub first: u32,
     pub starts: &'a [u32],
-    ghost few: { first + length starts.now ≤ 36864 },
+    ghost few: { first + length starts.now ≤ most_local_items },
 }
 
-// Where everything stands in a graph file that the first reading has accepted: the packages, the starts of the
-// dependency records, those of the feature records, both in file order with their owners, the features by package and
-// name, and so the dependencies, the last one first, since a bucket's list then has them in file order. The memory is fixed, since the library allocates nothing; how far each table is filled, `counts`
-// says. The starts are there twice, since one look asks by package and the other goes in file order.
+// Where everything stands in a graph file that the first reading has accepted. `packages`, `dependencies` and `features`
+// are in file order, the last two as starts of records; `parts` has both of these together, with their owners, since one
+// look asks by package and the other goes in file order. `index` has the features by package and name, and `named` the
+// dependencies, the last one first, since a bucket's list then has them in file order. The memory is fixed, since the
+// library allocates nothing; how far each table is filled, `counts` says.
 #[derive(Drop)]
 pub(crate) struct Directory<'a> {
     pub index: Index<'a>,

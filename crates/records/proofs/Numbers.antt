@@ -9,6 +9,9 @@ not-both e = let z : ◌≡◌ {A = ℕ} 0 1 = cc in omega arith
 pub in-ok : {X Y : Type 0} (x y : X) → ◌≡◌ {A = Result X Y} (Ok x) (Ok y) → x ≡ y
 in-ok x y e = cc
 
+pub in-err : {X Y : Type 0} (x y : Y) → ◌≡◌ {A = Result X Y} (Err x) (Err y) → x ≡ y
+in-err x y e = cc
+
 -- numbers put together again, which other files go on from
 pub two-value : (x : ℕ) → x % 256 + x / 256 * 256 ≡ x
 two-value x = omega arith

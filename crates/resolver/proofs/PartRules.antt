@@ -4,9 +4,8 @@ use Rattle.std.proofs.lemmas.Bool.{cases_lt}
 use Rattle.records.specs.declared.lanes.Lane.{Lane}
 use Rattle.records.specs.Graphs.{Dependency, Feature, Graph}
 use Rattle.graph.specs.Law.{features_in}
-use Rattle.graph.specs.Directory.{no_dependency, no_feature}
 use Rattle.graph.specs.OpeningLaw.{DependencyAt, FeatureAt, NamedAt, Stands, needs, builds, defaults, asks, plainly, switches, joins, In}
-use Rattle.graph.specs.Places.{Item, unit, dep, feat, dependencies_of, features_of}
+use Rattle.graph.specs.Places.{Item, unit, dep, feat, dependencies_of, features_of, no_dependency, no_feature}
 use Rattle.graph.specs.Rules.{Rule, lane_of}
 use Rattle.graph.proofs.Befores.{nothing-beyond}
 use Rattle.policy.specs.declared.sides.Side.{Side}

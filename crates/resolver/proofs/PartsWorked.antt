@@ -1,9 +1,8 @@
 -- The worked example of a closed target part.
 use Rattle.std.proofs.Common.{◌≡◌, ℕ, zero, suc, ◌<◌, T, get_or, Some, Option, refl, subst, lit<, arith}
 use Rattle.records.specs.Graphs.{Dependency}
-use Rattle.graph.specs.Directory.{no_dependency}
 use Rattle.graph.specs.Examples.{example}
-use Rattle.graph.specs.Places.{dependencies_of}
+use Rattle.graph.specs.Places.{dependencies_of, no_dependency}
 use Rattle.policy.specs.declared.sides.Side.{Side}
 use Rattle.policy.specs.declared.sides.Side.TheVariants.{Target, Host}
 use Rattle.policy.specs.Answers.{host_split}

@@ -1,9 +1,7 @@
 -- What a graph book means: the rules of graph words on each side, where a policy lets them lead.
 use Rattle.std.specs.Prelude.{ℕ, ◌+◌, ◌*◌, ◌/◌, Bool, true, false, cond, ◌&&◌, List, length, take, drop, Some, None, Option, nat_le, nat_lt, slice_index}
 use Rattle.graph.specs.declared.rows.Row.{Row}
-use Rattle.graph.specs.Keys.{most_features}
-use Rattle.graph.specs.Opening.{most_rows}
-use Rattle.graph.specs.Reading.{most_packages, most_dependencies}
+use Rattle.graph.specs.Limits.{most_packages, most_dependencies, most_features, most_rows}
 use Rattle.graph.specs.Rules.{row_from, on_some}
 use Rattle.records.specs.declared.lanes.Lane.{Lane}
 use Rattle.policy.specs.declared.sides.Side.{Side}

@@ -1,7 +1,7 @@
 use Rattle.std.proofs.Common.{[], ◌∷◌, append-nil, sym, ◌∙◌, arith}
 use Rattle.std.specs.Iterator.Adapters.{rev_source}
 use Rattle.std.specs.Slice.Iter.{iter_rest}
-use Rattle.graph.specs.Keys.{key_view}
+use Rattle.graph.specs.Buckets.{key_view}
 use Rattle.graph.specs.Views.{keys}
 use Rattle.graph.proofs.DependenciesNamed.{after-front, turn-keys, turn-room}
 use Rattle.graph.proofs.Links.{keys_length}

@@ -1,7 +1,7 @@
 use Rattle.std.proofs.Common.{◌≡◌, ◌%◌, ◌<◌, rules, arith}
 use Rattle.std.proofs.lemmas.Fn.{serves_by}
 use Rattle.std.proofs.lemmas.List.Folds.{fold_along}
-use Rattle.graph.specs.Keys.{hash_step, bucket_of}
+use Rattle.graph.specs.Buckets.{hash_step, bucket_of}
 use Rattle.graph.proofs.lookup.bucket.Goals as goal
 
 -- each step gives a number of a bucket

@@ -4,7 +4,8 @@ use Rattle.std.proofs.lemmas.Result.{err_from_is_err_and}
 use Rattle.std.proofs.lemmas.Bool.{cond-false, le-ltb}
 use Rattle.graph.specs.declared.faults.FileFault.{FileFault}
 use Rattle.graph.specs.declared.faults.InRecord.{InRecord}
-use Rattle.graph.specs.Reading.{Stand, Found, begin, record_at, scan, most_bytes}
+use Rattle.graph.specs.Reading.{Stand, Found, begin, record_at, scan}
+use Rattle.graph.specs.Limits.{most_bytes}
 use Rattle.graph.specs.Gathered.{Gathered, gathered, gathered_in, gathered_by}
 use Rattle.graph.specs.Views.{stand_view, found_view, keys, Fits}
 use Rattle.graph.proofs.Links.{keys_length}

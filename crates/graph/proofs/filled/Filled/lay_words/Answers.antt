@@ -1,7 +1,8 @@
 use Rattle.std.proofs.Common.{◌≡◌, ◌+◌, ◌*◌, length, Ok, sym, ap, ◌∙◌, arith}
 use Rattle.std.proofs.lemmas.Bool.{cond-false, le-ltb}
 use Rattle.graph.specs.Laying.{its}
-use Rattle.graph.specs.Opening.{most_rows, over, opened_as, laid_for, leaving}
+use Rattle.graph.specs.Opening.{over, opened_as, laid_for, leaving}
+use Rattle.graph.specs.Limits.{most_rows}
 use Rattle.graph.specs.Rules.{rows, graph_words}
 use Rattle.graph.proofs.FilledTells.{packages-told, dependencies-told, features-told}
 use Rattle.graph.proofs.filled.Filled.lay_words.Goals as goal

@@ -1,6 +1,6 @@
 use Rattle.std.proofs.Common.{◌-◌, length, Some, sym, ap, ◌∙◌}
 use Rattle.graph.specs.Depending.{depending}
-use Rattle.graph.specs.Keys.{past}
+use Rattle.graph.specs.Buckets.{past}
 use Rattle.graph.specs.Laying.{its}
 use Rattle.graph.specs.Namesakes.{among_from}
 use Rattle.graph.proofs.FilledTells.{names-left}

@@ -1,6 +1,6 @@
 use Rattle.std.proofs.Common.{◌+◌, ◌*◌, ◌≤◌, length, set, ◌∙◌, subst}
 use Rattle.graph.specs.Laying.{its}
-use Rattle.graph.specs.Opening.{most_rows}
+use Rattle.graph.specs.Limits.{most_rows}
 use Rattle.graph.proofs.FilledTells.{packages-told, dependencies-told, features-told}
 use Rattle.graph.proofs.Opens.{words-written}
 use Rattle.graph.proofs.filled.Filled.write.Goals as goal

@@ -1,5 +1,5 @@
 use Rattle.std.proofs.Common.{◌∙◌}
-use Rattle.graph.specs.Keys.{key_of, entry_at}
+use Rattle.graph.specs.Buckets.{key_of, entry_at}
 use Rattle.graph.proofs.Links.{key-bucket, next-newest}
 use Rattle.graph.proofs.index.Index.older.Goals as goal
 

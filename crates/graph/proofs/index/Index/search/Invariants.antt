@@ -1,5 +1,5 @@
 use Rattle.std.proofs.Common.{◌≡◌}
-use Rattle.graph.specs.Keys.{past, newest_of, InBucket}
+use Rattle.graph.specs.Buckets.{past, newest_of, InBucket}
 use Rattle.graph.proofs.index.Index.search.Given as goal
 
 -- what is found from here on is the answer

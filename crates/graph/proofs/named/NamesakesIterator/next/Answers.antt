@@ -1,7 +1,7 @@
 use Rattle.std.proofs.Common.{◌≡◌, ◌+◌, ◌-◌, ◌∷◌, length, get_or, Some, sym, ap, ◌∙◌, arith}
 use Rattle.graph.specs.Depending.{depending}
 use Rattle.graph.specs.Directory.{no_depending}
-use Rattle.graph.specs.Keys.{past}
+use Rattle.graph.specs.Buckets.{past}
 use Rattle.graph.specs.Laying.{its}
 use Rattle.graph.specs.Namesakes.{among_from, left, namesake_view}
 use Rattle.graph.proofs.FilledTells.{dependencies-told, many-depending, names-count, next-of-name}

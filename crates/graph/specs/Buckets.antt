@@ -1,0 +1,71 @@
+-- The index that finds features, or dependencies, by package and name: lists of entries, one for each bucket.
+use Rattle.std.specs.Prelude.{◌≡◌, ℕ, zero, suc, ◌+◌, ◌*◌, ◌%◌, ◌<◌, Bool, true, cond, List, [], map, length, take, Some, None, Option, slice_index_or}
+use Rattle.std.specs.List.{fold}
+use Rattle.graph.specs.declared.index.Entry.{Entry}
+use Rattle.graph.specs.declared.index.Key as code
+use Rattle.graph.specs.Keys.{Key, is_key}
+use Rattle.graph.specs.Limits.{most_features}
+
+-- how many buckets there are, and by what each byte of a name spreads the keys over them
+abbrev pub buckets : ℕ
+buckets = 32749
+
+abbrev pub factor : ℕ
+factor = 263
+
+-- the bucket of a key
+abbrev pub hash_step : ℕ → ℕ → ℕ
+hash_step h b = (h * factor + b) % buckets
+
+abbrev pub bucket_of : ℕ → List ℕ → ℕ
+bucket_of owner name = fold hash_step (owner % buckets) name
+
+-- a key of the code
+abbrev pub key_view : code.Key → Key
+key_view k = record { owner = k.owner; name = k.name.now }
+
+abbrev pub key_of : Entry → Key
+key_of e = key_view e.key
+
+abbrev pub blank : Entry
+blank = record { key = record { owner = 0; name = record { ref_ptr = (0, 0); now = [] } }; next = None }
+
+abbrev pub entry_at : List Entry → ℕ → Entry
+entry_at entries k = slice_index_or entries k blank
+
+abbrev pub keys_of : List Entry → ℕ → List Key
+keys_of entries n = map key_of (take n entries)
+
+abbrev pub bucket_at : List Entry → ℕ → ℕ
+bucket_at entries k = bucket_of (key_of (entry_at entries k)).owner (key_of (entry_at entries k)).name
+
+-- one past a number, and 0 for none
+abbrev pub past : Option ℕ → ℕ
+past None = 0
+past (Some k) = k + 1
+
+abbrev pub head_of : List (Option ℕ) → ℕ → Option ℕ
+head_of heads h = slice_index_or heads h None
+
+-- The lists of the buckets are whole: of the first n entries,
+pub record Linked (entries : List Entry) (heads : List (Option ℕ)) (n : ℕ) : Type 0 where
+  pub full : length entries ≡ most_features
+  -- none is newer than the head of its bucket, which is one of that bucket;
+  pub newest : (k : ℕ) → k < n → k < past (head_of heads (bucket_at entries k))
+  pub headed : (h k : ℕ) → head_of heads h ≡ Some k → (k < n) × (bucket_at entries k ≡ h)
+  -- none of its bucket stands between one and the next one, which is older and of that bucket
+  pub between : (j k : ℕ) → j < k → k < n → bucket_at entries j ≡ bucket_at entries k → j < past (entry_at entries k).next
+  pub nexted : (k j : ℕ) → k < n → (entry_at entries k).next ≡ Some j → (j < k) × (bucket_at entries j ≡ bucket_at entries k)
+
+-- the newest of the first n entries that has a key
+abbrev pub newest_of : List Entry → ℕ → List ℕ → ℕ → Option ℕ
+newest_of entries owner name zero = None
+newest_of entries owner name (suc n) = cond (is_key owner name (key_of (entry_at entries n))) (Some n) (newest_of entries owner name n)
+
+-- entry k, one of the first n, has a key; and an entry, if any, is one of the bucket of a key
+abbrev pub IsEntry : List Entry → ℕ → ℕ → List ℕ → ℕ → Type 0
+IsEntry entries n owner name k = (k < n) × (is_key owner name (key_of (entry_at entries k)) ≡ true)
+
+abbrev pub InBucket : List Entry → ℕ → ℕ → List ℕ → Option ℕ → Type 0
+InBucket entries n owner name None = Unit {0}
+InBucket entries n owner name (Some k) = (k < n) × (bucket_at entries k ≡ bucket_of owner name)
