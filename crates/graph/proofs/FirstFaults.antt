@@ -1,7 +1,10 @@
--- Which faults the first reading finds: of records any but that something is unknown, and of the file none but its size.
-use Rattle.std.proofs.Common.{◌≡◌, ℕ, zero, suc, ◌+◌, ◌*◌, ◌-◌, Bool, true, false, cond, eqb, leb, ltb, List, [], ◌∷◌, ◌++◌, length, take, drop, Some, None, Ok, Err, Option, Result, subst}
-use Rattle.text.specs.declared.faults.StringFault.{StringFault}
-use Rattle.text.specs.Forms.{Piece}
+-- Which faults the first reading finds, of records any but that something is unknown; and where the record at fault begins.
+use Rattle.std.proofs.Common.{◌≡◌, ℕ, zero, suc, ◌+◌, ◌*◌, ◌-◌, Bool, true, false, cond, eqb, leb, ltb, List, [], ◌∷◌, ◌++◌, length, take, drop, Some, None, Ok, Err, Option, Result, sym, refl, ap, ◌∙◌, subst, arith}
+use Rattle.std.proofs.lemmas.List.{length-append, append_assoc}
+use Rattle.std.specs.List.{flat_map}
+use Rattle.records.specs.Encoding.{record_bytes, Bytes}
+use Rattle.records.proofs.Numbers.{not-both, in-err, bytes-split}
+use Rattle.records.proofs.Framing.{frame-says}
 use Rattle.records.specs.declared.faults.InField.{InField}
 use Rattle.records.specs.declared.faults.RecordFault.{RecordFault}
 use Rattle.records.specs.declared.faults.RecordFault.TheVariants.{Cut, Stray, Ragged, Mark, Text, Twice, Unknown, Many}
@@ -10,13 +13,13 @@ use Rattle.records.specs.declared.frames.Kind.TheVariants as kind
 use Rattle.records.specs.Frames.{Frame, frame_of, of_length, inside}
 use Rattle.records.specs.Fields.{View, Field, on_ok, and_then, byte_of, byte_field, word_of, word_field, string_of, string_field, in_record, name_of, name_field, form_of, form_field, switch_at, switch_field, edge_at, edge_field, closed_of, closed_field, version_at, header_field}
 use Rattle.records.specs.Bodies.{many, name_text, form_text, names_field, forms_field, values_field, package_field, dependency_field}
-use Rattle.records.specs.Graphs.{Feature, dependency, feature, Part}
 use Rattle.graph.specs.declared.faults.InRecord.{InRecord}
 use Rattle.graph.specs.declared.faults.FileFault.{FileFault}
 use Rattle.graph.specs.declared.faults.FileFault.TheVariants.{Record, Size, Rows, Memory}
+use Rattle.graph.specs.OpeningLaw.{Behind}
 use Rattle.graph.specs.Keys.{Key, has_key}
 use Rattle.graph.specs.Limits.{most_packages, most_dependencies, most_features}
-use Rattle.graph.specs.Reading.{Content, header, heads, part, end, Stand, Found, Rest, Reading, kind_here, below, as_content, fresh, feature_field, content_as, content_of, with_content, with_frame, record_at, after, on_rest, carried, on_found, one_record, at_most, scan}
+use Rattle.graph.specs.Reading.{Content, header, heads, part, end, Stand, Found, Rest, Reading, begin, kind_here, as_content, fresh, feature_field, content_as, content_of, with_content, with_frame, record_at, after, on_rest, carried, on_found, one_record, at_most, scan}
 
 -- a fault of a record that the first reading may find
 abbrev pub Early : RecordFault → Type 0
@@ -202,3 +205,73 @@ fine-scan st bs = fine-most (suc (length bs)) st bs
 
 pub first-faults : (st : Stand) (bs : List ℕ) (e : FileFault) → scan st bs ≡ Err e → FineFile e
 first-faults st bs e h = subst FineReading h (fine-scan st bs)
+
+-- the record at fault begins behind those that were read before it
+record Onward (st : Stand) (bs : List ℕ) (number start : ℕ) : Type 0 where
+  records : List (ℕ × List ℕ)
+  rest : List ℕ
+  bytes : bs ≡ flat_map (λ r. record_bytes r.0 r.1) records ++ rest
+  number_is : number ≡ st.number + length records
+  start_is : start ≡ st.start + length (flat_map (λ r. record_bytes r.0 r.1) records)
+
+abbrev OnwardAt : Stand → List ℕ → InRecord → Type 0
+OnwardAt st bs x = Onward st bs x.number x.start
+
+stays : (st : Stand) (bs : List ℕ) → Onward st bs st.number st.start
+stays st bs = record { records = []; rest = bs; bytes = refl; number_is = omega arith; start_is = omega arith }
+
+-- one record more in front
+behind-one : (st : Stand) (c : Content) (bs : List ℕ) (f : Frame) (number start : ℕ) → bs ≡ record_bytes f.kind f.body ++ f.after → Onward (after st (record { content = c; frame = f })) f.after number start → Onward st bs number start
+behind-one st c bs f number start e o =
+    let own : List ℕ = record_bytes f.kind f.body in
+    let more : List ℕ = flat_map (λ r. record_bytes r.0 r.1) o.records in
+    let size : length own ≡ length f.body + 6 = omega arith in
+    record {
+      records = (f.kind, f.body) ∷ o.records;
+      rest = o.rest;
+      bytes = e ∙ ap (λ z. own ++ z) o.bytes ∙ sym (append_assoc own more o.rest);
+      number_is = omega (arith, o.number_is);
+      start_is = omega (arith, o.start_is, size, length-append own more);
+    }
+
+rest-refused : (F : Rest → Rest) (r : Reading) (x : InRecord) → on_rest F r ≡ Err (Record x) → r ≡ Err (Record x)
+rest-refused F (Ok p) x e = absurd (not-both (sym e))
+rest-refused F (Err y) x e = ap (λ z. Err z) (in-err _ _ e)
+
+carried-refused : (st : Stand) (f : Found) (c : Content) (r : Reading) (x : InRecord) → carried st f c r ≡ Err (Record x) → r ≡ Err (Record x)
+carried-refused st f header r x e = e
+carried-refused st f (heads y) r x e = rest-refused _ r x e
+carried-refused st f (part p) r x e = rest-refused _ r x e
+carried-refused st f end r x e = absurd (not-both (sym e))
+
+of_record : (x y : InRecord) → ◌≡◌ {A = Reading} (Err (Record x)) (Err (Record y)) → x ≡ y
+of_record x y e = cc
+
+module _ (k : Stand → List ℕ → Reading) (ih : (st : Stand) (bs : List ℕ) (x : InRecord) → Bytes bs → k st bs ≡ Err (Record x) → OnwardAt st bs x) (st : Stand) (bs : List ℕ) (x : InRecord) (fit : Bytes bs) where
+  by_frame : (f : Frame) → frame_of bs ≡ Ok f → (r : Result Content RecordFault) → on_found st k (with_content st f r) ≡ Err (Record x) → OnwardAt st bs x
+  by_frame f q (Err e) h = subst (OnwardAt st bs) (of_record _ _ h) (stays st bs)
+  by_frame f q (Ok c) h =
+      let says = frame-says bs f fit q in
+      let y : Found = record { content = c; frame = f } in
+      behind-one st c bs f x.number x.start says (ih (after st y) f.after x (bytes-split (record_bytes f.kind f.body) f.after (subst Bytes says fit)).1 (carried-refused st y c _ x h))
+
+  behind-record : on_found st k (record_at st bs) ≡ Err (Record x) → OnwardAt st bs x
+  behind-record h = go (frame_of bs) refl h
+    where
+      go : (r : Result Frame RecordFault) → frame_of bs ≡ r → on_found st k (with_frame st r) ≡ Err (Record x) → OnwardAt st bs x
+      go (Ok f) q e = by_frame f q (content_of st f) e
+      go (Err y) q e = subst (OnwardAt st bs) (of_record _ _ e) (stays st bs)
+
+behind-most : (n : ℕ) (st : Stand) (bs : List ℕ) (x : InRecord) → Bytes bs → at_most n st bs ≡ Err (Record x) → OnwardAt st bs x
+unfolding at_most
+behind-most zero st bs x fit e = subst (OnwardAt st bs) (of_record _ _ e) (stays st bs)
+behind-most (suc n) st bs x fit e = behind-record (at_most n) (behind-most n) st bs x fit e
+
+behind-scan : (st : Stand) (bs : List ℕ) (x : InRecord) → Bytes bs → scan st bs ≡ Err (Record x) → OnwardAt st bs x
+unfolding scan
+behind-scan st bs x fit e = behind-most (suc (length bs)) st bs x fit e
+
+pub first-behind : (file : List ℕ) (x : InRecord) → Bytes file → scan begin file ≡ Err (Record x) → Behind file x.number x.start
+first-behind file x fit e =
+    let o = behind-scan begin file x fit e in
+    record { records = o.records; rest = o.rest; bytes = o.bytes; number_is = omega (arith, o.number_is); start_is = omega (arith, o.start_is) }

@@ -16,8 +16,8 @@ use Rattle.graph.specs.Rules.{rows, graph_words}
 use Rattle.graph.specs.Second.{second_reading}
 use Rattle.graph.specs.Opening.{over, opened_as, on_checked, on_graph, laid_for, open_graph}
 use Rattle.graph.specs.Limits.{most_bytes, most_rows, head_words, row_width}
-use Rattle.graph.specs.OpeningLaw.{SaysNone, RecordLacks, Lacks, Opens, OpeningLaw}
-use Rattle.graph.proofs.FirstFaults.{Early, first-faults}
+use Rattle.graph.specs.OpeningLaw.{SaysNone, Behind, RecordLacks, Lacks, Opens, OpeningLaw}
+use Rattle.graph.proofs.FirstFaults.{Early, first-faults, first-behind}
 use Rattle.graph.proofs.FirstSound.{first-sound}
 use Rattle.graph.proofs.FirstComplete.{first-complete}
 use Rattle.graph.proofs.Telling.{says-one}
@@ -66,7 +66,7 @@ module _ (file words : List ℕ) where
       ∙ cond-false _ _ _ (le-ltb (length words) (head_words + row_width * length (rows g)) h.room)
 
   -- what is refused, lacks what the refusal tells
-  record-lacks : (x : InRecord) → Early x.fault → SaysNone file → RecordLacks file x.number x.start x.fault
+  record-lacks : (x : InRecord) → Early x.fault → SaysNone file × Behind file x.number x.start → RecordLacks file x.number x.start x.fault
   record-lacks x a n = go x.fault a
     where
       go : (f : RecordFault) → Early f → RecordLacks file x.number x.start f
@@ -82,11 +82,11 @@ module _ (file words : List ℕ) where
   says-none : (e : FileFault) → first_reading file ≡ Err e → SaysNone file
   says-none e h g s = not-both (sym h ∙ first-complete file g s)
 
-  first-lacks : (e : FileFault) → first_reading file ≡ Err e → Lacks file words e
-  first-lacks e h = go (ltb most_bytes (length file)) refl (scan begin file) refl h
+  first-lacks : Bytes file → (e : FileFault) → first_reading file ≡ Err e → Lacks file words e
+  first-lacks fit e h = go (ltb most_bytes (length file)) refl (scan begin file) refl h
     where
       of_scan : (x : FileFault) → scan begin file ≡ Err x → x ≡ e → Lacks file words e
-      of_scan (Record x) r q = subst (Lacks file words) q (record-lacks x (first-faults begin file (Record x) r) (says-none (Record x) (h ∙ ap (λ z. Err z) (sym q))))
+      of_scan (Record x) r q = subst (Lacks file words) q (record-lacks x (first-faults begin file (Record x) r) (says-none (Record x) (h ∙ ap (λ z. Err z) (sym q)), first-behind file x fit r))
       of_scan Size r q = absurd (first-faults begin file Size r)
       of_scan Rows r q = absurd (first-faults begin file Rows r)
       of_scan Memory r q = absurd (first-faults begin file Memory r)
@@ -114,7 +114,7 @@ module _ (file words : List ℕ) where
   open-lacks fit e h = go (first_reading file) refl h
     where
       go : (r : Result (Graph × ℕ) FileFault) → first_reading file ≡ r → on_graph r (λ g n. on_checked (second_reading g) (laid g n)) ≡ Err e → Lacks file words e
-      go (Err x) q k = first-lacks e (q ∙ ap (λ z. Err z) (in-err _ _ k))
+      go (Err x) q k = first-lacks fit e (q ∙ ap (λ z. Err z) (in-err _ _ k))
       go (Ok p) q k = graph-lacks p.0 p.1 e (first-sound file fit p.0 p.1 q).0 k
 
 pub opening-law : (file words : List ℕ) → Bytes file → (r : Result (Opened × List ℕ) FileFault) → r ≡ open_graph file words → OpeningLaw file words r

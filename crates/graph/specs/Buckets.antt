@@ -1,5 +1,5 @@
 -- The index that finds features, or dependencies, by package and name: lists of entries, one for each bucket.
-use Rattle.std.specs.Prelude.{◌≡◌, ℕ, zero, suc, ◌+◌, ◌*◌, ◌%◌, ◌<◌, Bool, true, cond, List, [], map, length, take, Some, None, Option, slice_index_or}
+use Rattle.std.specs.Prelude.{◌≡◌, ℕ, zero, suc, ◌+◌, ◌*◌, ◌%◌, ◌<◌, true, cond, List, [], map, length, take, Some, None, Option, slice_index_or}
 use Rattle.std.specs.List.{fold}
 use Rattle.graph.specs.declared.index.Entry.{Entry}
 use Rattle.graph.specs.declared.index.Key as code

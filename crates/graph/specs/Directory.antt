@@ -1,5 +1,5 @@
 -- What a directory tells of the graph of its file.
-use Rattle.std.specs.Prelude.{◌≡◌, ℕ, ◌+◌, ◌<◌, false, List, [], ◌++◌, length, drop, Some, Ok, Err, Result, slice_index, slice_index_or}
+use Rattle.std.specs.Prelude.{◌≡◌, ℕ, ◌+◌, ◌<◌, false, List, ◌++◌, length, drop, Some, Ok, Err, Result, slice_index, slice_index_or}
 use Rattle.records.specs.Graphs.{Part, dependency, feature, Graph}
 use Rattle.records.specs.Encoding.{part_bytes, encode}
 use Rattle.graph.specs.declared.contents.Counts.{Counts}

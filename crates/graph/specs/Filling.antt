@@ -6,7 +6,7 @@ use Rattle.records.specs.Encoding.{part_bytes, package_bytes, header_bytes, end_
 use Rattle.graph.specs.declared.tables.PackageEntry.{PackageEntry}
 use Rattle.graph.specs.declared.tables.PartEntry.{PartEntry}
 use Rattle.graph.specs.declared.tables.Directory.{Directory}
-use Rattle.graph.specs.Limits.{most_packages, most_dependencies, most_features, most_parts}
+use Rattle.graph.specs.Limits.{most_packages, most_dependencies, most_features}
 use Rattle.graph.specs.Law.{dependencies_in, features_in, dependency_count, feature_count, LawfulPart, LawfulPackage, Says}
 use Rattle.graph.specs.Second.{package_record}
 use Rattle.graph.specs.Directory.{RecordAt, no_package, no_part}

@@ -1,11 +1,11 @@
 -- Opening accepts exactly the lawful graphs, and lays down exactly their rules.
-use Rattle.std.specs.Prelude.{◌≡◌, ℕ, ◌+◌, ◌*◌, ◌<◌, ◌≤◌, true, false, ◌⊎◌, List, [], ◌∷◌, length, Some, None, Ok, Err, codes, Result, slice_index_or}
-use Rattle.std.specs.List.{AllByRecursion}
+use Rattle.std.specs.Prelude.{◌≡◌, ℕ, ◌+◌, ◌*◌, ◌<◌, ◌≤◌, true, false, ◌⊎◌, List, [], ◌∷◌, ◌++◌, length, Some, None, Ok, Err, codes, Result, slice_index_or}
+use Rattle.std.specs.List.{flat_map, AllByRecursion}
 use Rattle.text.specs.Forms.{Form, plain, switch, strong, weak}
 use Rattle.records.specs.declared.faults.RecordFault.{RecordFault}
 use Rattle.records.specs.declared.faults.RecordFault.TheVariants.{Cut, Stray, Ragged, Mark, Text, Twice, Unknown, Many}
 use Rattle.records.specs.Graphs.{Dependency, Feature, Part, dependency, feature, Graph}
-use Rattle.records.specs.Encoding.{encode}
+use Rattle.records.specs.Encoding.{record_bytes, encode}
 use Rattle.graph.specs.declared.faults.FileFault.{FileFault}
 use Rattle.graph.specs.declared.faults.FileFault.TheVariants.{Record, Size, Rows, Memory}
 use Rattle.graph.specs.declared.rows.Opened.{Opened}
@@ -71,6 +71,14 @@ Refers g p (feature f) = AllByRecursion (Resolves g p) f.values
 abbrev pub SaysNone : List ℕ → Type 0
 SaysNone file = (g : Graph) → Says file g → ⊥
 
+-- the file begins with so many records, each with a kind and a body, and the next one begins at this place
+pub record Behind (file : List ℕ) (number start : ℕ) : Type 0 where
+  pub records : List (ℕ × List ℕ)
+  pub rest : List ℕ
+  pub bytes : file ≡ flat_map (λ r. record_bytes r.0 r.1) records ++ rest
+  pub number_is : number ≡ length records
+  pub start_is : start ≡ length (flat_map (λ r. record_bytes r.0 r.1) records)
+
 -- the file says a graph, and something that the record at this place refers to is not there
 pub record RefersAmiss (file : List ℕ) (number start : ℕ) : Type 0 where
   pub graph : Graph
@@ -82,16 +90,16 @@ pub record RefersAmiss (file : List ℕ) (number start : ℕ) : Type 0 where
   pub amiss : Refers graph at.owner at.part → ⊥
 
 -- what a file lacks that is refused for a record: with Unknown, something that this record refers to, and with all other
--- faults, a lawful graph
+-- faults, a lawful graph; the record begins behind those before it
 abbrev pub RecordLacks : List ℕ → ℕ → ℕ → RecordFault → Type 0
 RecordLacks file number start (Unknown field) = RefersAmiss file number start
-RecordLacks file number start Cut = SaysNone file
-RecordLacks file number start Stray = SaysNone file
-RecordLacks file number start (Ragged field) = SaysNone file
-RecordLacks file number start (Mark field) = SaysNone file
-RecordLacks file number start (Text found) = SaysNone file
-RecordLacks file number start (Twice field) = SaysNone file
-RecordLacks file number start Many = SaysNone file
+RecordLacks file number start Cut = SaysNone file × Behind file number start
+RecordLacks file number start Stray = SaysNone file × Behind file number start
+RecordLacks file number start (Ragged field) = SaysNone file × Behind file number start
+RecordLacks file number start (Mark field) = SaysNone file × Behind file number start
+RecordLacks file number start (Text found) = SaysNone file × Behind file number start
+RecordLacks file number start (Twice field) = SaysNone file × Behind file number start
+RecordLacks file number start Many = SaysNone file × Behind file number start
 
 -- what a file or the words lack where opening is refused so
 abbrev pub Lacks : List ℕ → List ℕ → FileFault → Type 0

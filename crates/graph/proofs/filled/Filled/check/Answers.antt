@@ -1,4 +1,4 @@
-use Rattle.std.proofs.Common.{◌≡◌, ℕ, ◌+◌, ◌<◌, length, get_or, Err, Result, sym, ap, ◌∙◌, arith}
+use Rattle.std.proofs.Common.{◌≡◌, ◌+◌, ◌<◌, length, get_or, Err, Result, sym, ap, ◌∙◌, arith}
 use Rattle.records.specs.declared.faults.RecordFault.{RecordFault}
 use Rattle.graph.specs.Directory.{no_placed}
 use Rattle.graph.specs.Laying.{its}
