@@ -1,4 +1,4 @@
--- The rows of a graph by numbers, as the code lays them.
+-- The rows of a graph by numbers, as private functions lay them; `RowsLaid` shows that all of them together are `rows`.
 use Rattle.std.specs.Prelude.{◌≡◌, ℕ, zero, suc, ◌+◌, ◌<◌, length, slice_index, slice_index_or, Bool, true, false, cond, ◌&&◌, List, [], ◌∷◌, ◌++◌, drop, Some, None, codes, Option}
 use Rattle.std.specs.List.{flat_map}
 use Rattle.std.specs.Str.{bytes_eq}
@@ -11,6 +11,8 @@ use Rattle.graph.specs.declared.tables.PartEntry.{PartEntry}
 use Rattle.graph.specs.declared.tables.Starts.{Starts}
 use Rattle.graph.specs.Directory.{no_placed}
 use Rattle.graph.specs.declared.rules.Premises.{Premises}
+use Rattle.graph.specs.declared.rules.Link.{Link}
+use Rattle.graph.specs.declared.rules.Link.TheVariants.{Switch, Strong, Weak}
 use Rattle.graph.specs.Parts.{graph_of, part_in}
 use Rattle.graph.specs.Places.{dep, feat, dependencies_of, features_of, number}
 use Rattle.graph.specs.Second.{Placed}
@@ -52,6 +54,17 @@ dependency_rows g owner item d =
     ++ (record { from = item; mate = None; to = d.end; lane = Some (lane_of g d); cross = true } ∷ []
     ++ (cond d.defaults (ask_rows g item (lane_of g d) d.end (codes "default")) []
     ++ flat_map (ask_rows g item (lane_of g d) d.end) d.asks))
+
+-- whether a value switches an optional dependency on, and the feature of its end that it names
+abbrev pub switches : Link → Bool
+switches Switch = true
+switches (Strong x) = true
+switches (Weak x) = false
+
+abbrev pub feature_named : Link → Option (List ℕ)
+feature_named Switch = None
+feature_named (Strong x) = Some x.now
+feature_named (Weak x) = Some x.now
 
 -- the rows of a value for one dependency that it names: it may switch it on, and it may name a feature of its end
 abbrev pub weak_rows : Graph → ℕ → Option (List ℕ) → ℕ → Dependency → List Row

@@ -2,7 +2,7 @@
 ghost use Rattle.std.specs.Prelude.{◌≡◌};
 ghost use Rattle.std.specs.List.{flat_map};
 ghost use Rattle.records.specs.Bodies.{dependency_view, texts, form_in, forms, bytes_in};
-ghost use Rattle.graph.specs.Laying.{its, row_to, row_found, ask_rows, dependency_rows, switch_rows, weak_rows, each_named, value_rows};
+ghost use Rattle.graph.specs.Laying.{its, switches, feature_named, row_to, row_found, ask_rows, dependency_rows, switch_rows, weak_rows, each_named, value_rows};
 ghost use Rattle.graph.specs.Places.{proc_of};
 ghost use Rattle.graph.specs.Sheets.{lays};
 
@@ -39,15 +39,42 @@ impl Premises {
     }
 }
 
-// A value that names dependencies: the number of its feature, the name, whether it switches an optional one on, and
-// the feature of their ends that it names, if any. The rows ask the last two apart, so an enum of the three forms would
-// be matched twice.
+// What a value does with a dependency that it names: it switches it on, if it is optional, or turns on a feature of its
+// end once it is active, or both.
 #[derive(Clone, Copy)]
-pub(crate) struct Named<'b> {
+pub(crate) enum Link<'b> {
+    Switch,
+    Strong(&'b [u8]),
+    Weak(&'b [u8]),
+}
+
+impl<'b> Link<'b> {
+    fn switches(self) -> bool
+        ensures { result ≡ switches self.entry }
+    {
+        match self {
+            Link::Switch | Link::Strong(_) => true,
+            Link::Weak(_) => false,
+        }
+    }
+
+    // The feature that it names.
+    fn feature(self) -> Option<&'b [u8]>
+        ensures { bytes_in result ≡ feature_named self.entry }
+    {
+        match self {
+            Link::Switch => None,
+            Link::Strong(feature) | Link::Weak(feature) => Some(feature),
+        }
+    }
+}
+
+// A value that names dependencies: the number of its feature, the name, and what it does with them.
+#[derive(Clone, Copy)]
+pub(crate) struct Naming<'b> {
     pub from: u32,
     pub name: &'b [u8],
-    pub switches: bool,
-    pub feature: Option<&'b [u8]>,
+    pub link: Link<'b>,
 }
 
 impl<'a> Filled<'a> {
@@ -115,10 +142,10 @@ impl<'a> Filled<'a> {
     }
 
     // From a feature to an optional dependency, where a value may switch it on.
-    fn switch_row(&self, sheet: &mut Sheet, value: Named, item: u32, d: Dependency)
-        ensures { sheet.new ≡ lays sheet.old (switch_rows (its self.now) value.entry.from value.entry.switches item (dependency_view d.entry)) }
+    fn switch_row(&self, sheet: &mut Sheet, value: Naming, item: u32, d: Dependency)
+        ensures { sheet.new ≡ lays sheet.old (switch_rows (its self.now) value.entry.from (switches value.entry.link) item (dependency_view d.entry)) }
     {
-        if value.switches && d.optional {
+        if value.link.switches() && d.optional {
             let premises = Premises {
                 from: value.from,
                 mate: None,
@@ -130,10 +157,10 @@ impl<'a> Filled<'a> {
     }
 
     // From a feature and a dependency to the feature of a name of its end, where a value names one.
-    fn weak_row(&self, sheet: &mut Sheet, value: Named, item: u32, d: Dependency)
-        ensures { sheet.new ≡ lays sheet.old (weak_rows (its self.now) value.entry.from (bytes_in value.entry.feature) item (dependency_view d.entry)) }
+    fn weak_row(&self, sheet: &mut Sheet, value: Naming, item: u32, d: Dependency)
+        ensures { sheet.new ≡ lays sheet.old (weak_rows (its self.now) value.entry.from (feature_named value.entry.link) item (dependency_view d.entry)) }
     {
-        if let Some(name) = value.feature {
+        if let Some(name) = value.link.feature() {
             let premises = Premises {
                 from: value.from,
                 mate: Some(item),
@@ -145,8 +172,8 @@ impl<'a> Filled<'a> {
     }
 
     // The rows of a value for each dependency of a package that has the value's name.
-    fn named_rows(&self, sheet: &mut Sheet, p: u32, value: Named)
-        ensures { sheet.new ≡ lays sheet.old (each_named (its self.now) p value.entry.from value.entry.name.now value.entry.switches (bytes_in value.entry.feature)) }
+    fn named_rows(&self, sheet: &mut Sheet, p: u32, value: Naming)
+        ensures { sheet.new ≡ lays sheet.old (each_named (its self.now) p value.entry.from value.entry.name.now (switches value.entry.link) (feature_named value.entry.link)) }
     {
         for d in self.named(p, value.name) {
             self.switch_row(sheet, value, d.item, d.dependency);
@@ -164,30 +191,30 @@ impl<'a> Filled<'a> {
             lane: None,
             cross: false,
         };
-        let (dependency, switches, feature) = match read_feature_string(text) {
+        let (dependency, link) = match read_feature_string(text) {
             Ok(FeatureString::Plain { feature }) => {
                 return self.row_found(sheet, plain, p, feature.bytes);
             }
-            Ok(FeatureString::Switch { dependency }) => (dependency, true, None),
+            Ok(FeatureString::Switch { dependency }) => (dependency, Link::Switch),
             Ok(
                 FeatureString::Strong {
                     dependency,
                     feature,
                 },
-            ) => (dependency, true, Some(feature.bytes)),
+            ) => (dependency, Link::Strong(feature.bytes)),
             Ok(
                 FeatureString::Weak {
                     dependency,
                     feature,
                 },
-            ) => (dependency, false, Some(feature.bytes)),
+            ) => (dependency, Link::Weak(feature.bytes)),
+            // no string of an accepted file: `form_in` takes it for a plain one
             Err(_) => return self.row_found(sheet, plain, p, text),
         };
-        let value = Named {
+        let value = Naming {
             from,
             name: dependency.bytes,
-            switches,
-            feature,
+            link,
         };
         self.named_rows(sheet, p, value);
     }

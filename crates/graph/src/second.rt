@@ -50,6 +50,7 @@ impl<'a> Filled<'a> {
                 self.has_dependency(p, dependency.bytes)
                     && self.ends_have(p, dependency.bytes, feature.bytes)
             }
+            // no string of an accepted file: `form_in` takes it for a plain one
             Err(_) => self.has_feature(p, text),
         }
     }

@@ -1,7 +1,6 @@
 use Rattle.std.proofs.Common.{ap, ◌∙◌}
 use Rattle.std.specs.List.{flat_map}
-use Rattle.records.specs.Bodies.{bytes_in}
-use Rattle.graph.specs.Laying.{its}
+use Rattle.graph.specs.Laying.{its, switches, feature_named}
 use Rattle.graph.specs.Namesakes.{left}
 use Rattle.graph.specs.Sheets.{lays}
 use Rattle.graph.proofs.NamesakesLaid.{rows_for, rows-namesakes}
@@ -11,7 +10,7 @@ pub loop-d-init : goal.loop-d-init
 loop-d-init c =
     let g = its c.args.self.now in
     let v = c.args.value in
-    let rows = rows_for g c.args.p v.name.now v.from v.switches (bytes_in v.feature) in
+    let rows = rows_for g c.args.p v.name.now v.from (switches v.link) (feature_named v.link) in
     ap (λ i. lays c.args.sheet.now (flat_map rows (left i))) c.into_iter-d-iterator.ensures.into_iter_gives
     ∙ ap (λ ys. lays c.args.sheet.now (flat_map rows ys)) c.named-d-items.ensures
-    ∙ ap (lays c.args.sheet.now) (rows-namesakes g c.args.p v.name.now v.from v.switches (bytes_in v.feature))
+    ∙ ap (lays c.args.sheet.now) (rows-namesakes g c.args.p v.name.now v.from (switches v.link) (feature_named v.link))
