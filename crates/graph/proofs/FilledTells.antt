@@ -6,7 +6,7 @@ use Rattle.std.proofs.Props.{props}
 use Rattle.records.specs.Graphs.{dependency, feature, Graph}
 use Rattle.graph.specs.declared.filled.Filled.{Filled}
 use Rattle.graph.specs.declared.tables.Directory.{Directory}
-use Rattle.graph.specs.Depending.{Depending, depending, Named}
+use Rattle.graph.specs.Depending.{Depending, depending, Indexed}
 use Rattle.graph.specs.Directory.{Tells, no_package, no_part, no_depending, no_placed}
 use Rattle.graph.specs.Laying.{its, ReadsAs, PlacedAs}
 use Rattle.graph.specs.Law.{dependency_count, feature_count}
@@ -75,7 +75,7 @@ module _ (x : Filled) where
   many-depending = depending-length 0 graph
 
   -- a fact with at most one proof, from what the index of dependencies has
-  pub from-names : {P : Type 0} → IsProp P → (Named dir.named graph → P) → P
+  pub from-names : {P : Type 0} → IsProp P → (Indexed dir.named graph → P) → P
   from-names one f = ∥∥₁_elim x.named one f
 
   pub names-count : dir.named.lists.count ≡ length (depending 0 graph)

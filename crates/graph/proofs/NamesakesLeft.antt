@@ -4,7 +4,7 @@ use Rattle.std.proofs.lemmas.List.{length-map, length-reverse, get_or-map, get_o
 use Rattle.std.proofs.lemmas.Bool.{cond-true, cond-false}
 use Rattle.records.specs.Graphs.{Dependency, Graph}
 use Rattle.graph.specs.declared.index.Index.{Index}
-use Rattle.graph.specs.Depending.{Depending, depending, dependency_key, Named}
+use Rattle.graph.specs.Depending.{Depending, depending, dependency_key, Indexed}
 use Rattle.graph.specs.Directory.{no_depending}
 use Rattle.graph.specs.Keys.{is_key}
 use Rattle.graph.specs.Buckets.{key_of, blank, entry_at, past, newest_of}
@@ -15,7 +15,7 @@ use Rattle.graph.proofs.Links.{keys_length, keys-at}
 abbrev pub from_end : Graph → ℕ → ℕ × Dependency
 from_end g k = (length g + (length (depending 0 g) - 1 - k), (get_or (depending 0 g) (length (depending 0 g) - 1 - k) no_depending).dependency)
 
-module _ (index : Index) (g : Graph) (named : Named index g) where
+module _ (index : Index) (g : Graph) (named : Indexed index g) where
   abbrev all : List Depending
   all = depending 0 g
 

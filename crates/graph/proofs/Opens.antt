@@ -10,7 +10,7 @@ use Rattle.graph.specs.declared.faults.FileFault.TheVariants.{Record}
 use Rattle.graph.specs.declared.rows.Opened.{Opened}
 use Rattle.graph.specs.declared.rows.Row.{Row}
 use Rattle.graph.specs.declared.tables.Directory.{Directory}
-use Rattle.graph.specs.Depending.{Named}
+use Rattle.graph.specs.Depending.{Indexed}
 use Rattle.graph.specs.Directory.{Tells, ReadAs}
 use Rattle.graph.specs.Law.{Says, dependency_count, feature_count}
 use Rattle.graph.specs.Opening.{over, on_checked, on_graph, laid_for, open_graph, leaving, with_words}
@@ -41,8 +41,8 @@ module _ (file words : List ℕ) (dir : Directory) (read : ReadAs file (Ok tt) d
   pub told : Tells dir its
   told = subst (Tells dir) (sym graph) read.1.2
 
-  pub named : Named dir.named its
-  named = subst (Named dir.named) (sym graph) read.1.3
+  pub named : Indexed dir.named its
+  named = subst (Indexed dir.named) (sym graph) read.1.3
 
   after_first : open_graph file words ≡ on_checked (second_reading (its)) (laid_for (its) dir.counts.read words)
   after_first =

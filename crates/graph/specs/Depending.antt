@@ -24,8 +24,8 @@ abbrev pub dependency_key : Depending → Key
 dependency_key x = record { owner = x.owner; name = x.dependency.name }
 
 -- the index has all dependencies by package and name, the last one first
-abbrev pub Named : Index → Graph → Type 0
-Named index g = keys index ≡ reverse (map dependency_key (depending 0 g))
+abbrev pub Indexed : Index → Graph → Type 0
+Indexed index g = keys index ≡ reverse (map dependency_key (depending 0 g))
 
 -- package and name of a record, if it is a dependency
 abbrev pub key_if : ℕ → Part → List Key

@@ -10,7 +10,7 @@ use Rattle.graph.specs.declared.tables.PartEntry.{PartEntry}
 use Rattle.graph.specs.declared.tables.Directory.{Directory}
 use Rattle.graph.specs.Reading.{first_reading}
 use Rattle.graph.specs.Law.{LawfulPart, Says, dependency_count, feature_count}
-use Rattle.graph.specs.Depending.{Depending, owned, Named}
+use Rattle.graph.specs.Depending.{Depending, owned, Indexed}
 use Rattle.graph.specs.Gathered.{keys_from}
 use Rattle.graph.specs.Parts.{part_in}
 use Rattle.graph.specs.Places.{no_dependency, no_feature, dependencies_of, features_of, proc_of, dependencies_before, features_before}
@@ -60,5 +60,5 @@ pub record Tells (dir : Directory) (g : Graph) : Type 0 where
 
 -- what a reading answers, with the directory that it leaves
 abbrev pub ReadAs : List ℕ → Result (Unit {0}) FileFault → Directory → Type 0
-ReadAs file (Ok u) dir = (dir.index.file.now ≡ file) × ((g : Graph) × (first_reading file ≡ Ok (g, dir.counts.read)) × Tells dir g × Named dir.named g)
+ReadAs file (Ok u) dir = (dir.index.file.now ≡ file) × ((g : Graph) × (first_reading file ≡ Ok (g, dir.counts.read)) × Tells dir g × Indexed dir.named g)
 ReadAs file (Err e) dir = first_reading file ≡ Err e
