@@ -1,5 +1,5 @@
 -- A feature's number in the index tells its place in its package.
-use Rattle.std.proofs.Common.{◌≡◌, ℕ, zero, suc, ◌+◌, ◌-◌, ◌<◌, ◌≤◌, true, false, ◌&&◌, eqb, List, [], ◌∷◌, ◌++◌, length, get_or, Some, None, Option, sym, refl, ap, ◌∙◌, ⊎_elim, arith}
+use Rattle.std.proofs.Common.{◌≡◌, ℕ, zero, suc, ◌+◌, ◌-◌, ◌<◌, ◌≤◌, true, false, ◌&&◌, eqb, List, [], ◌∷◌, ◌++◌, length, get_or, Some, None, Option, sym, refl, ap, ◌∙◌, ⊎_elim, arith, option_map}
 use Rattle.std.proofs.ByRecursion.{All-get_or}
 use Rattle.std.proofs.lemmas.Slice.Eq.{bytes_eq-Decides}
 use Rattle.std.proofs.lemmas.List.{length-append, get_or_append_left, get_or-append-add}
@@ -13,7 +13,7 @@ use Rattle.graph.specs.Buckets.{key_of, blank, entry_at, keys_of}
 use Rattle.graph.specs.Law.{features_in, dependency_count, Differ, LawfulPackage}
 use Rattle.graph.specs.Gathered.{keys_in, keys_from}
 use Rattle.graph.specs.Places.{feat, features_of, features_before, number}
-use Rattle.graph.specs.Rules.{later, place_of, on_some}
+use Rattle.graph.specs.Rules.{later, place_of}
 use Rattle.graph.proofs.Links.{Finds, keys_length, keys-at}
 
 abbrev no_feature : Feature
@@ -115,9 +115,9 @@ features-differ (a ∷ g) zero l = l.0.2
 features-differ (a ∷ g) (suc q) l = features-differ g q l.1
 
 -- what a search in the index finds, as the number of the item
-pub finds-item : (entries : List Entry) (n : ℕ) (g : Graph) (q : ℕ) (name : List ℕ) (r : Option ℕ) → n ≤ length entries → keys_of entries n ≡ keys_from 0 g → AllByRecursion LawfulPackage g → Finds entries n q name r → on_some (λ k. (length g + dependency_count g) + k) r ≡ on_some (λ j. number g (feat q j)) (place_of (features_of g q) name)
+pub finds-item : (entries : List Entry) (n : ℕ) (g : Graph) (q : ℕ) (name : List ℕ) (r : Option ℕ) → n ≤ length entries → keys_of entries n ≡ keys_from 0 g → AllByRecursion LawfulPackage g → Finds entries n q name r → option_map (λ k. (length g + dependency_count g) + k) r ≡ option_map (λ j. number g (feat q j)) (place_of (features_of g q) name)
 finds-item entries n g q name None l e law f =
-    ap (on_some (λ j. number g (feat q j))) (sym (place_none (features_of g q) name (λ j m.
+    ap (option_map (λ j. number g (feat q j))) (sym (place_none (features_of g q) name (λ j m.
     let h = key-at 0 g q j (key_of blank) m in
     let w : features_before g q + j < n = omega (arith, h.0, ap length e, keys_length entries n l) in
     let k : key_of (entry_at entries (features_before g q + j)) ≡ record { owner = 0 + q; name = (get_or (features_of g q) j no_feature).name } =
@@ -138,4 +138,4 @@ finds-item entries n g q name (Some k) l e law f =
     ap (λ x. bytes_eq x.name name) (sym at.1 ∙ ap (λ i. get_or (keys_from 0 g) i (key_of blank)) (sym h.2) ∙ is) ∙ b.1 in
     let p : place_of (features_of g q) name ≡ Some h.0 = place-some (features_of g q) name h.0 h.1 same (features-differ g q law) in
     let c : (length g + dependency_count g) + k ≡ number g (feat q h.0) = omega (arith, h.2) in
-    ap (λ i. Some i) c ∙ ap (on_some (λ j. number g (feat q j))) (sym p)
+    ap (λ i. Some i) c ∙ ap (option_map (λ j. number g (feat q j))) (sym p)

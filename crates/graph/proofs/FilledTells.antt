@@ -1,5 +1,5 @@
 -- What a filled directory tells of the graph of its file.
-use Rattle.std.proofs.Common.{◌≡◌, ℕ, ◌+◌, ◌-◌, ◌<◌, ◌≤◌, List, ◌∷◌, Some, Option, length, get_or, take, drop, sym, ap, ◌∙◌, subst, arith}
+use Rattle.std.proofs.Common.{◌≡◌, ℕ, ◌+◌, ◌-◌, ◌<◌, ◌≤◌, List, ◌∷◌, Some, Option, length, get_or, take, drop, sym, ap, ◌∙◌, subst, arith, option_map}
 use Rattle.std.proofs.lemmas.List.{get_or-take, get_or-drop, length-take-le, length-drop}
 use Rattle.std.proofs.Math.Logic.{∥∥₁_elim}
 use Rattle.std.proofs.Props.{props}
@@ -13,7 +13,7 @@ use Rattle.graph.specs.Law.{dependency_count, feature_count}
 use Rattle.graph.specs.Places.{feat, dependencies_of, features_of, proc_of, number, dependencies_before, features_before, no_dependency, no_feature}
 use Rattle.graph.specs.Buckets.{past, newest_of, IsEntry}
 use Rattle.graph.specs.Namesakes.{among_from, namesakes}
-use Rattle.graph.specs.Rules.{on_some, place_of}
+use Rattle.graph.specs.Rules.{place_of}
 use Rattle.graph.specs.Second.{placed}
 use Rattle.graph.proofs.DependingPlaces.{depending-at, depending-length, all-namesakes}
 use Rattle.graph.proofs.NamesakesLeft.{all-named, from_end, from-newest, next-left}
@@ -114,7 +114,7 @@ module _ (x : Filled) where
       subst (λ s. ReadsAs x s (feature (get_or (features_of graph p) k no_feature))) (sym e) (feature-read p k l)
 
   -- what a search in the index says of the features of a package
-  pub finds-feature : (owner : ℕ) (name : List ℕ) (o : Option ℕ) → o ≡ newest_of dir.index.lists.entries owner name dir.index.lists.count → on_some (λ k. (length graph + dependency_count graph) + k) o ≡ on_some (λ j. number graph (feat owner j)) (place_of (features_of graph owner) name)
+  pub finds-feature : (owner : ℕ) (name : List ℕ) (o : Option ℕ) → o ≡ newest_of dir.index.lists.entries owner name dir.index.lists.count → option_map (λ k. (length graph + dependency_count graph) + k) o ≡ option_map (λ j. number graph (feat owner j)) (place_of (features_of graph owner) name)
   finds-feature owner name o e = from-tables (hlevel props) (λ t.
       let s = dir.index.lists in
       let room : s.count ≤ length s.entries = omega (arith, dir.index.few, dir.index.linked.full) in

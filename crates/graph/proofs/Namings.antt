@@ -1,5 +1,5 @@
 -- Checks of single records make those of all.
-use Rattle.std.proofs.Common.{◌≡◌, ℕ, ◌+◌, ◌<◌, Bool, cond, List, [], ◌∷◌, map, length, get_or, drop, Some, None, Err, Option, Result, sym, refl, ap, ◌∙◌, arith}
+use Rattle.std.proofs.Common.{◌≡◌, ℕ, ◌+◌, ◌<◌, Bool, cond, List, [], ◌∷◌, map, length, get_or, drop, Some, None, Err, Option, Result, sym, refl, ap, ◌∙◌, arith, option_map}
 use Rattle.std.proofs.lemmas.List.{at_drop_more}
 use Rattle.std.proofs.lemmas.Option.{none-some}
 use Rattle.records.specs.declared.faults.RecordFault.{RecordFault}
@@ -8,7 +8,6 @@ use Rattle.graph.specs.declared.faults.InRecord.{InRecord}
 use Rattle.graph.specs.declared.contents.Owned as owned
 use Rattle.graph.specs.declared.contents.Owned.TheVariants as kept
 use Rattle.graph.specs.Directory.{no_placed}
-use Rattle.graph.specs.Rules.{on_some}
 use Rattle.graph.specs.Views.{owned_view}
 use Rattle.graph.specs.Second.{Placed, all_known, or_after, checked}
 use Rattle.text.specs.Forms.{Form, spell}
@@ -40,12 +39,12 @@ module _ (test : Placed → Result (Unit {0}) RecordFault) (xs : List Placed) (j
       ∙ opened
 
 -- a record that is read again as a dependency is that one
-module _ (o : Option owned.Owned) (d : Dependency) (e : on_some owned_view o ≡ Some (dependency d)) where
+module _ (o : Option owned.Owned) (d : Dependency) (e : option_map owned_view o ≡ Some (dependency d)) where
   pub read-dependency : (x : DependencyBody) → o ≡ Some (kept.Dependency x) → dependency_view x ≡ d
-  read-dependency x q = let z : dependency (dependency_view x) ≡ dependency d = same-part _ _ (sym (ap (on_some owned_view) q) ∙ e) in cc
+  read-dependency x q = let z : dependency (dependency_view x) ≡ dependency d = same-part _ _ (sym (ap (option_map owned_view) q) ∙ e) in cc
 
   pub read-no-feature : (x : FeatureBody) → o ≡ Some (kept.Feature x) → ⊥
-  read-no-feature x q = let z : feature (feature_view x) ≡ dependency d = same-part _ _ (sym (ap (on_some owned_view) q) ∙ e) in let w : ◌≡◌ {A = ℕ} 0 1 = cc in omega arith
+  read-no-feature x q = let z : feature (feature_view x) ≡ dependency d = same-part _ _ (sym (ap (option_map owned_view) q) ∙ e) in let w : ◌≡◌ {A = ℕ} 0 1 = cc in omega arith
 
   pub read-something : o ≡ None → ⊥
-  read-something q = none-some (dependency d) (sym (ap (on_some owned_view) q) ∙ e)
+  read-something q = none-some (dependency d) (sym (ap (option_map owned_view) q) ∙ e)

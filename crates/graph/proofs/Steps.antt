@@ -1,11 +1,10 @@
 -- A call of an iterator that gives the first of what is left.
-use Rattle.std.proofs.Common.{◌≡◌, Bool, true, false, is_some, List, [], ◌∷◌, length, Some, None, Option, MatchOption, sym, ap, ◌∙◌, arith}
+use Rattle.std.proofs.Common.{◌≡◌, Bool, true, false, is_some, List, [], ◌∷◌, length, Some, None, Option, MatchOption, sym, ap, ◌∙◌, arith, option_map}
 use Rattle.std.proofs.lemmas.Option.{none-some, same_Some}
 use Rattle.std.specs.Iterator.{MakesProgress, item_count}
-use Rattle.graph.specs.Rules.{on_some}
 
 -- what `YieldsFirstBy` says of the lists before and after
-pub gives-first : {A B : Type 0} (view : A → B) (before after : List B) (y : B) → before ≡ y ∷ after → (r : Option A) → on_some view r ≡ Some y → MatchOption r ((before ≡ []) × (after ≡ [])) (λ x. before ≡ view x ∷ after)
+pub gives-first : {A B : Type 0} (view : A → B) (before after : List B) (y : B) → before ≡ y ∷ after → (r : Option A) → option_map view r ≡ Some y → MatchOption r ((before ≡ []) × (after ≡ [])) (λ x. before ≡ view x ∷ after)
 gives-first view before after y left None e = absurd (none-some y e)
 gives-first view before after y left (Some x) e = left ∙ ap (λ z. z ∷ after) (sym (same_Some (view x) y e))
 

@@ -1,5 +1,5 @@
 -- The rules of a graph, over places, and its rule rows.
-use Rattle.std.specs.Prelude.{ℕ, suc, ◌+◌, Bool, true, false, cond, ◌&&◌, List, [], ◌∷◌, ◌++◌, map, length, Some, None, codes, Option, ◌==◌, nat_le, slice_index}
+use Rattle.std.specs.Prelude.{ℕ, suc, ◌+◌, Bool, true, false, cond, ◌&&◌, List, [], ◌∷◌, ◌++◌, map, length, Some, None, codes, Option, ◌==◌, nat_le, slice_index, option_map}
 use Rattle.std.specs.List.{flat_map}
 use Rattle.std.specs.Str.{bytes_eq}
 use Rattle.text.specs.Forms.{Form, plain, switch, strong, weak}
@@ -92,12 +92,8 @@ abbrev pub rules : Graph → List Rule
 rules g = each (package_rules g) 0 g
 
 -- rows are rules with the items by number
-abbrev pub on_some : {A B : Type 0} → (A → B) → Option A → Option B
-on_some f None = None
-on_some f (Some a) = Some (f a)
-
 abbrev pub row_of : Graph → Rule → Row
-row_of g ρ = record { from = number g ρ.from; mate = on_some (number g) ρ.mate; to = number g ρ.to; lane = ρ.lane; cross = ρ.cross }
+row_of g ρ = record { from = number g ρ.from; mate = option_map (number g) ρ.mate; to = number g ρ.to; lane = ρ.lane; cross = ρ.cross }
 
 abbrev pub rows : Graph → List Row
 rows g = map (row_of g) (rules g)

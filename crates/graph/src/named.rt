@@ -1,10 +1,9 @@
 // Finding the dependencies of a package by name.
-ghost use Rattle.std.specs.Prelude.{◌≡◌, ℕ, ◌+◌, ◌<◌, length, slice_index_or, Some};
+ghost use Rattle.std.specs.Prelude.{◌≡◌, ℕ, ◌+◌, ◌<◌, length, slice_index_or, Some, option_map};
 ghost use Rattle.graph.specs.Depending.{depending};
 ghost use Rattle.graph.specs.Directory.{no_depending};
 ghost use Rattle.graph.specs.Laying.{its};
 ghost use Rattle.graph.specs.Namesakes.{namesakes, left, namesake_view};
-ghost use Rattle.graph.specs.Rules.{on_some};
 
 use crate::contents::Owned;
 use crate::filled::Filled;
@@ -15,7 +14,7 @@ impl<'a> Filled<'a> {
     // Dependency `k` of the graph.
     fn dependency(&self, k: u32) -> Option<Namesake<'a>>
         requires { k < length (depending 0 (its self.now)) }
-        ensures { on_some namesake_view result ≡ Some (length (its self.now) + k, (slice_index_or (depending 0 (its self.now)) k no_depending).dependency) }
+        ensures { option_map namesake_view result ≡ Some (length (its self.now) + k, (slice_index_or (depending 0 (its self.now)) k no_depending).dependency) }
     {
         let start = self.directory.dependencies[k as usize];
         match self.part_at(start)? {

@@ -1,10 +1,9 @@
 // Records of an accepted file, read again.
-ghost use Rattle.std.specs.Prelude.{◌≡◌, ◌+◌, ◌^◌, ◌<◌, length, drop, Ok};
+ghost use Rattle.std.specs.Prelude.{◌≡◌, ◌+◌, ◌^◌, ◌<◌, length, drop, Ok, option_map};
 ghost use Rattle.records.specs.Frames.{frame as frame_view};
 ghost use Rattle.records.specs.Fields.{view, outcome_by};
 ghost use Rattle.records.specs.Bodies.{feature_view};
 ghost use Rattle.graph.specs.Parts.{feature_again, part_as, part_in};
-ghost use Rattle.graph.specs.Rules.{on_some};
 ghost use Rattle.graph.specs.Views.{owned_view};
 
 use crate::contents::Owned;
@@ -26,7 +25,7 @@ fn feature_again<'a>(body: &mut Reader<'a>) -> Result<Feature<'a>, RecordFault>
 // What a dependency or feature record says.
 fn part_of<'a>(frame: Frame<'a>) -> Option<Owned<'a>>
     requires { length frame.body.now + 6 < 2 ^ 63 }
-    ensures { on_some owned_view result ≡ part_as (Ok (frame_view frame.entry)) }
+    ensures { option_map owned_view result ≡ part_as (Ok (frame_view frame.entry)) }
 {
     let mut body = Reader {
         rest: frame.body,
@@ -41,14 +40,14 @@ fn part_of<'a>(frame: Frame<'a>) -> Option<Owned<'a>>
 
 // The dependency or feature record at the front of some bytes.
 fn first_part<'a>(bytes: &'a [u8]) -> Option<Owned<'a>>
-    ensures { on_some owned_view result ≡ part_in bytes.now }
+    ensures { option_map owned_view result ≡ part_in bytes.now }
 {
     part_of(first_frame(bytes).ok()?)
 }
 
 // The dependency or feature record at a place of the file.
 pub(crate) fn part_at<'a>(file: &'a [u8], start: usize) -> Option<Owned<'a>>
-    ensures { on_some owned_view result ≡ part_in (drop start file.now) }
+    ensures { option_map owned_view result ≡ part_in (drop start file.now) }
 {
     first_part(file.get(start..)?)
 }

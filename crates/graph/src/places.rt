@@ -1,11 +1,11 @@
 // Where the records of a graph stand, and what they are.
-ghost use Rattle.std.specs.Prelude.{◌≡◌, ℕ, ◌+◌, ◌-◌, ◌<◌, ◌≤◌, length, take, drop, slice_index, slice_index_or, Some};
+ghost use Rattle.std.specs.Prelude.{◌≡◌, ℕ, ◌+◌, ◌-◌, ◌<◌, ◌≤◌, length, take, drop, slice_index, slice_index_or, Some, option_map};
 ghost use Rattle.records.specs.Graphs.{Part, dependency, feature};
 ghost use Rattle.graph.specs.Directory.{no_part, no_placed};
 ghost use Rattle.graph.specs.Limits.{most_local_items};
 ghost use Rattle.graph.specs.Laying.{its, ReadsAs, PlacedAs};
 ghost use Rattle.graph.specs.Places.{dep, feat, dependencies_of, features_of, proc_of, number, dependencies_before, features_before, no_dependency, no_feature};
-ghost use Rattle.graph.specs.Rules.{on_some, place_of};
+ghost use Rattle.graph.specs.Rules.{place_of};
 ghost use Rattle.graph.specs.Second.{has_feature, placed};
 ghost use Rattle.graph.specs.Views.{owned_view};
 
@@ -82,7 +82,7 @@ impl<'a> Filled<'a> {
 
     // The dependency or feature record at a place.
     pub(crate) fn part_at(&self, start: u32) -> Option<Owned<'a>>
-        ensures { (p : Part) → ReadsAs self.now start p → on_some owned_view result ≡ Some p }
+        ensures { (p : Part) → ReadsAs self.now start p → option_map owned_view result ≡ Some p }
     {
         let directory = self.directory;
         part_at(directory.index.file, start as usize)
@@ -91,7 +91,7 @@ impl<'a> Filled<'a> {
     // The local number of the feature of a package and name. Only here a `Key` is made of the two: names of dependencies
     // are asked for by the same two, and are no keys.
     pub(crate) fn feature_item(&self, owner: u32, name: &[u8]) -> Option<u32>
-        ensures { result ≡ on_some (λ j. number (its self.now) (feat owner j)) (place_of (features_of (its self.now) owner) name.now) }
+        ensures { result ≡ option_map (λ j. number (its self.now) (feat owner j)) (place_of (features_of (its self.now) owner) name.now) }
     {
         let base = self.directory.counts.packages + self.directory.counts.dependencies;
         let k = self.directory.index.find(Key { owner, name })?;

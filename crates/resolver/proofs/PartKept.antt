@@ -1,12 +1,12 @@
 -- The law of closed target parts.
-use Rattle.std.proofs.Common.{◌≡◌, ℕ, ◌<◌, ◌≤◌, ◌≢◌, Bool, true, false, T, ◌⊎◌, List, Some, None, Option, sym, refl, ap, ◌∙◌, subst, inl, inr, ⊎_elim, arith}
+use Rattle.std.proofs.Common.{◌≡◌, ℕ, ◌<◌, ◌≤◌, ◌≢◌, Bool, true, false, T, ◌⊎◌, List, Some, None, Option, sym, refl, ap, ◌∙◌, subst, inl, inr, ⊎_elim, arith, option_map}
 use Rattle.std.proofs.lemmas.Bool.{cases_lt}
 use Rattle.records.specs.declared.lanes.Lane.{Lane}
 use Rattle.records.specs.Graphs.{Graph}
 use Rattle.graph.specs.Opening.{over}
 use Rattle.graph.specs.OpeningLaw.{Resolved, Stands}
 use Rattle.graph.specs.Places.{Item, number, item_count}
-use Rattle.graph.specs.Rules.{Rule, on_some, graph_words}
+use Rattle.graph.specs.Rules.{Rule, graph_words}
 use Rattle.policy.specs.declared.sides.Side.{Side}
 use Rattle.policy.specs.declared.sides.Side.TheVariants.{Target, Host}
 use Rattle.policy.specs.Answers.{Answers, Lawful}
@@ -36,11 +36,11 @@ host-stays : (answers : Answers) → Lawful answers → (cross : Bool) (lane : O
 host-stays answers lawful cross None = host-landing cross (Some Host) (λ h. let z : ◌≡◌ {A = ℕ} 0 1 = cc in omega arith)
 host-stays answers lawful cross (Some l) = host-landing cross (answers l Host) (lawful l)
 
-held-among : (P : ℕ → Type 0) (f : Item → ℕ) (m : Option Item) → Among P (on_some f m) → Held (λ x. P (f x)) m
+held-among : (P : ℕ → Type 0) (f : Item → ℕ) (m : Option Item) → Among P (option_map f m) → Held (λ x. P (f x)) m
 held-among P f None h = tt
 held-among P f (Some x) h = h
 
-among-held : (P : ℕ → Type 0) (f : Item → ℕ) (m : Option Item) → Held (λ x. P (f x)) m → Among P (on_some f m)
+among-held : (P : ℕ → Type 0) (f : Item → ℕ) (m : Option Item) → Held (λ x. P (f x)) m → Among P (option_map f m)
 among-held P f None h = tt
 among-held P f (Some x) h = h
 
@@ -89,7 +89,7 @@ module _ (answers : Answers) (lawful : Lawful answers) (S : ℕ → Bool) (g h :
         let there = sane g resolved ρ stands in
         let (s, y) = kept-item ρ.from there.from from in
         let c = carry answers S g h agree ρ stands leads s in
-        let entry : Entry = record { partner = on_some (target_number h) ρ.mate; conclusion = target_number h ρ.to } in
+        let entry : Entry = record { partner = option_map (target_number h) ρ.mate; conclusion = target_number h ρ.to } in
         let (r, q) = other.complete (target_number h ρ.from) entry (record {
           side = Target;
           goal = Target;
@@ -109,7 +109,7 @@ module _ (answers : Answers) (lawful : Lawful answers) (S : ℕ → Bool) (g h :
         go w.side w.goal w.rule w.stands w.leads w.conclusion w.premises
       where
         go : (side goal : Side) (ρ : Rule) → Stands g ρ → Leads answers side ρ goal → e.conclusion ≡ number_on g goal ρ.to →
-            ((i ≡ number_on g side ρ.from) × (e.partner ≡ on_some (number_on g side) ρ.mate))
+            ((i ≡ number_on g side ρ.from) × (e.partner ≡ option_map (number_on g side) ρ.mate))
             ⊎ ((x : Item) × (ρ.mate ≡ Some x) × (i ≡ number_on g side x) × (e.partner ≡ Some (number_on g side ρ.from))) →
             (x : Item) × Has g x × (target_number g x ≡ e.conclusion) × Shared Y x
         go side Host ρ stands leads c p = absurd (omega (arith, c, low))

@@ -1,5 +1,5 @@
 -- The table of words that opening wrote is that of the graph.
-use Rattle.std.proofs.Common.{◌≡◌, ℕ, zero, suc, ◌+◌, ◌-◌, ◌*◌, ◌/◌, ◌%◌, ◌<◌, ◌≤◌, true, false, List, [], ◌∷◌, ◌++◌, length, get_or, drop, Some, None, Option, sym, refl, ap, ◌∙◌, subst, inl, inr, ⊎_elim, arith, length-append}
+use Rattle.std.proofs.Common.{◌≡◌, ℕ, zero, suc, ◌+◌, ◌-◌, ◌*◌, ◌/◌, ◌%◌, ◌<◌, ◌≤◌, true, false, List, [], ◌∷◌, ◌++◌, length, get_or, drop, Some, None, Option, sym, refl, ap, ◌∙◌, subst, inl, inr, ⊎_elim, arith, length-append, option_map}
 use lib.Arith.{digits_mod}
 use Rattle.std.proofs.lemmas.List.{length-map, get_or-map}
 use Rattle.std.proofs.lemmas.Bool.{cond-true, and_from, le-leb, cases_lt}
@@ -9,7 +9,7 @@ use Rattle.graph.specs.Law.{dependency_count, feature_count}
 use Rattle.graph.specs.Opening.{over}
 use Rattle.graph.specs.OpeningLaw.{In, NamedAt, Opens, Resolved, Stands, needs, builds, defaults, asks, plainly, switches, joins}
 use Rattle.graph.specs.Places.{Item, unit, feat, number, item_count}
-use Rattle.graph.specs.Rules.{Rule, rules, rows, row_of, graph_words, on_some}
+use Rattle.graph.specs.Rules.{Rule, rules, rows, row_of, graph_words}
 use Rattle.graph.proofs.Opens.{rows-length}
 use Rattle.graph.proofs.RulesStand.{rule-stands, stands-rule}
 use Rattle.policy.specs.declared.sides.Side.{Side}
@@ -65,11 +65,11 @@ at_in x (y ∷ xs) d (inr m) = let (r, l, e) = at_in x xs d m in (suc r, omega a
 abbrev no_rule : Rule
 no_rule = record { from = unit 0; mate = None; to = unit 0; lane = None; cross = false }
 
-held_below : (g : Graph) (m : Option Item) → Held (Has g) m → Among (λ j. j < item_count g) (on_some (number g) m)
+held_below : (g : Graph) (m : Option Item) → Held (Has g) m → Among (λ j. j < item_count g) (option_map (number g) m)
 held_below g None h = tt
 held_below g (Some x) h = number-low g x h
 
-on-twice : {A B C : Type 0} (f : A → B) (h : B → C) (m : Option A) → on_some h (on_some f m) ≡ on_some (λ x. h (f x)) m
+on-twice : {A B C : Type 0} (f : A → B) (h : B → C) (m : Option A) → option_map h (option_map f m) ≡ option_map (λ x. h (f x)) m
 on-twice f h None = refl
 on-twice f h (Some x) = refl
 
@@ -119,7 +119,7 @@ module _ (file words : List ℕ) (g : Graph) (opens : Opens file words g) (answe
 
   -- the rule on a side, in item numbers
   abbrev on_side : Rule → Side → Side → ItemRule
-  on_side ρ s goal = record { from = number_on g s ρ.from; mate = on_some (number_on g s) ρ.mate; to = number_on g goal ρ.to }
+  on_side ρ s goal = record { from = number_on g s ρ.from; mate = option_map (number_on g s) ρ.mate; to = number_on g goal ρ.to }
 
   rule-read : (r : ℕ) → r < count → (s goal : Side) → Leads answers s (rule_at r) goal → (j : ℕ) → side_at (j / n) ≡ Some s → rule j r ≡ Some (on_side (rule_at r) s goal)
   rule-read r h s goal leads j side =
@@ -128,7 +128,7 @@ module _ (file words : List ℕ) (g : Graph) (opens : Opens file words g) (answe
       ∙ ap (rule_to n s (row_of g (rule_at r))) leads
       ∙ ap (λ (m : Option ℕ). Some (record { from = number_on g s (rule_at r).from; mate = m; to = number_on g goal (rule_at r).to })) (on-twice (number g) (item_on n s) (rule_at r).mate)
 
-  on-some : (f : Item → ℕ) (m : Option Item) (y : ℕ) → on_some f m ≡ Some y → (x : Item) × (m ≡ Some x) × (y ≡ f x)
+  on-some : (f : Item → ℕ) (m : Option Item) (y : ℕ) → option_map f m ≡ Some y → (x : Item) × (m ≡ Some x) × (y ≡ f x)
   on-some f None y h = absurd (let z : ◌≡◌ {A = ℕ} 0 1 = cc in omega arith)
   on-some f (Some x) y h = (x, refl, cc)
 
@@ -139,7 +139,7 @@ module _ (file words : List ℕ) (g : Graph) (opens : Opens file words g) (answe
       let same : f.row ≡ row_of g (rule_at r) = let z : Some f.row ≡ Some (row_of g (rule_at r)) = sym f.read ∙ row-read r f.low in cc in
       let is : s.of ≡ on_side (rule_at r) f.at f.goal =
       f.is
-      ∙ ap (λ (w : Row). record { from = item_on n f.at w.from; mate = on_some (item_on n f.at) w.mate; to = item_on n f.goal w.to }) same
+      ∙ ap (λ (w : Row). record { from = item_on n f.at w.from; mate = option_map (item_on n f.at) w.mate; to = item_on n f.goal w.to }) same
       ∙ ap (λ (m : Option ℕ). record { from = number_on g f.at (rule_at r).from; mate = m; to = number_on g f.goal (rule_at r).to }) (on-twice (number g) (item_on n f.at) (rule_at r).mate) in
       record {
         side = f.at;
@@ -174,7 +174,7 @@ module _ (file words : List ℕ) (g : Graph) (opens : Opens file words g) (answe
             (λ z.
             let has : Has g z.0 = subst (Held (Has g)) z.1 k.mate in
             let side : side_at (i / n) ≡ Some w.side = ap (λ j. side_at (j / n)) z.2 ∙ item-side n w.side (number g z.0) (number-low g z.0 has) in
-            let mate : ρ.mate ≡ Some i = ap (on_some (number_on g w.side)) z.1 ∙ ap Some (sym z.2) in
+            let mate : ρ.mate ≡ Some i = ap (option_map (number_on g w.side)) z.1 ∙ ap Some (sym z.2) in
             ap (λ o. entry_in o i) (read i side) ∙ mate-watches ρ i mate
             ∙ ap Some (λ j. record { partner = sym z.3 j; conclusion = sym w.conclusion j }))
             w.premises,

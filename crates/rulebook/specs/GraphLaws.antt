@@ -1,10 +1,10 @@
 -- The graph book keeps the laws of tables, for any words. A proof, which stands here as RuleLaws does.
-use Rattle.std.specs.Prelude.{◌≡◌, ℕ, ◌+◌, ◌*◌, ◌/◌, ◌<◌, ◌≤◌, Bool, true, false, cond, ◌&&◌, List, length, take, drop, Some, None, Option, nat_le, nat_lt, slice_index, refl}
+use Rattle.std.specs.Prelude.{◌≡◌, ℕ, ◌+◌, ◌*◌, ◌/◌, ◌<◌, ◌≤◌, Bool, true, false, cond, ◌&&◌, List, length, take, drop, Some, None, Option, nat_le, nat_lt, slice_index, refl, option_map}
 use Rattle.std.proofs.Common.{sym, ap, ◌∙◌, subst, inl, inr, arith}
 use Rattle.std.proofs.Math.Arith.{digits_div}
 use Rattle.std.proofs.lemmas.Bool.{and_parts, leb-true, ltb-true}
 use Rattle.graph.specs.declared.rows.Row.{Row}
-use Rattle.graph.specs.Rules.{row_from, on_some}
+use Rattle.graph.specs.Rules.{row_from}
 use Rattle.policy.specs.declared.sides.Side.{Side}
 use Rattle.policy.specs.declared.sides.Side.TheVariants.{Target, Host}
 use Rattle.policy.specs.Sides.{sides, side_number, side_at}
@@ -88,7 +88,7 @@ module _ (answers : Answers) (n rows : ℕ) (ws : List ℕ) where
     pub range : InRange n row
     pub goal : Side
     pub lands : landing at row.cross (row_lead answers at row.lane) ≡ Some goal
-    pub is : ρ ≡ record { from = item_on n at row.from; mate = on_some (item_on n at) row.mate; to = item_on n goal row.to }
+    pub is : ρ ≡ record { from = item_on n at row.from; mate = option_map (item_on n at) row.mate; to = item_on n goal row.to }
 
   pub from_row : (side : Option Side) (r : ℕ) (ρ : ItemRule) → rule_for answers n side (row_in n rows ws r) ≡ Some ρ → From side r ρ
   from_row side r ρ h = by_side side refl h
@@ -97,7 +97,7 @@ module _ (answers : Answers) (n rows : ℕ) (ws : List ℕ) where
       by-goal s q row w None l h = absurd (let z : ◌≡◌ {A = ℕ} 0 1 = cc in omega arith)
       by-goal s q row w (Some goal) l h =
           let c = cond-some (nat_lt r rows) (row_read n ws r) row w in
-          record { at = s; sided = q; row = row; read = w; low = ltb-true r rows c.0; range = read-range n ws r row c.1; goal = goal; lands = l; is = sym (let z : ◌≡◌ {A = ItemRule} (record { from = item_on n s row.from; mate = on_some (item_on n s) row.mate; to = item_on n goal row.to }) ρ = cc in z) }
+          record { at = s; sided = q; row = row; read = w; low = ltb-true r rows c.0; range = read-range n ws r row c.1; goal = goal; lands = l; is = sym (let z : ◌≡◌ {A = ItemRule} (record { from = item_on n s row.from; mate = option_map (item_on n s) row.mate; to = item_on n goal row.to }) ρ = cc in z) }
 
       by_row : (s : Side) → side ≡ Some s → (o : Option Row) → row_in n rows ws r ≡ o → rule_on answers n s o ≡ Some ρ → From side r ρ
       by_row s q None w h = absurd (let z : ◌≡◌ {A = ℕ} 0 1 = cc in omega arith)
@@ -107,7 +107,7 @@ module _ (answers : Answers) (n rows : ℕ) (ws : List ℕ) where
       by_side None q h = absurd (let z : ◌≡◌ {A = ℕ} 0 1 = cc in omega arith)
       by_side (Some s) q h = by_row s q (row_in n rows ws r) refl h
 
-  mate-low : (s : Side) (m : Option ℕ) → Among (λ j. j < n) m → Among (λ j. j < sides * n) (on_some (item_on n s) m)
+  mate-low : (s : Side) (m : Option ℕ) → Among (λ j. j < n) m → Among (λ j. j < sides * n) (option_map (item_on n s) m)
   mate-low s None h = tt
   mate-low s (Some j) h = item-low n s j h
 
@@ -123,11 +123,11 @@ module _ (answers : Answers) (n rows : ℕ) (ws : List ℕ) where
 
   -- a premise of a rule is a local item on its side
   premise-local : (s goal : Side) (row : Row) → InRange n row → (j : ℕ) →
-      Premise (record { from = item_on n s row.from; mate = on_some (item_on n s) row.mate; to = item_on n goal row.to }) j → (l : ℕ) × (l < n) × (item_on n s l ≡ j)
+      Premise (record { from = item_on n s row.from; mate = option_map (item_on n s) row.mate; to = item_on n goal row.to }) j → (l : ℕ) × (l < n) × (item_on n s l ≡ j)
   premise-local s goal row range j (inl f) = (row.from, range.from, f)
   premise-local s goal row range j (inr m) = by-mate row.mate range.mate m
     where
-      by-mate : (o : Option ℕ) → Among (λ k. k < n) o → on_some (item_on n s) o ≡ Some j → (l : ℕ) × (l < n) × (item_on n s l ≡ j)
+      by-mate : (o : Option ℕ) → Among (λ k. k < n) o → option_map (item_on n s) o ≡ Some j → (l : ℕ) × (l < n) × (item_on n s l ≡ j)
       by-mate None a h = absurd (let z : ◌≡◌ {A = ℕ} 0 1 = cc in omega arith)
       by-mate (Some l) a h = (l, a, cc)
 

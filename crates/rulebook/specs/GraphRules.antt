@@ -1,9 +1,9 @@
 -- The rules of a graph on each side, by place, and what it is for a table to be that of a graph.
-use Rattle.std.specs.Prelude.{◌≡◌, ℕ, ◌*◌, ◌<◌, ◌⊎◌, length, Some}
+use Rattle.std.specs.Prelude.{◌≡◌, ℕ, ◌*◌, ◌<◌, ◌⊎◌, length, Some, option_map}
 use Rattle.records.specs.Graphs.{Graph}
 use Rattle.graph.specs.OpeningLaw.{Stands}
 use Rattle.graph.specs.Places.{Item, unit, dep, feat, dependencies_of, features_of, number, item_count}
-use Rattle.graph.specs.Rules.{Rule, on_some}
+use Rattle.graph.specs.Rules.{Rule}
 use Rattle.policy.specs.declared.sides.Side.{Side}
 use Rattle.policy.specs.Sides.{sides}
 use Rattle.policy.specs.Answers.{Answers}
@@ -34,7 +34,7 @@ pub record Watched (answers : Answers) (g : Graph) (i : ℕ) (e : Entry) : Type 
   pub stands : Stands g rule
   pub leads : Leads answers side rule goal
   pub conclusion : e.conclusion ≡ number_on g goal rule.to
-  pub premises : ((i ≡ number_on g side rule.from) × (e.partner ≡ on_some (number_on g side) rule.mate))
+  pub premises : ((i ≡ number_on g side rule.from) × (e.partner ≡ option_map (number_on g side) rule.mate))
       ⊎ ((x : Item) × (rule.mate ≡ Some x) × (i ≡ number_on g side x) × (e.partner ≡ Some (number_on g side rule.from)))
 
 -- the table is that of a graph under these answers:

@@ -1,8 +1,8 @@
 -- What a graph book means: the rules of graph words on each side, where a policy lets them lead.
-use Rattle.std.specs.Prelude.{ℕ, ◌+◌, ◌*◌, ◌/◌, Bool, true, false, cond, ◌&&◌, List, length, take, drop, Some, None, Option, nat_le, nat_lt, slice_index}
+use Rattle.std.specs.Prelude.{ℕ, ◌+◌, ◌*◌, ◌/◌, Bool, true, false, cond, ◌&&◌, List, length, take, drop, Some, None, Option, nat_le, nat_lt, slice_index, option_map}
 use Rattle.graph.specs.declared.rows.Row.{Row}
 use Rattle.graph.specs.Limits.{most_packages, most_dependencies, most_features, most_rows}
-use Rattle.graph.specs.Rules.{row_from, on_some}
+use Rattle.graph.specs.Rules.{row_from}
 use Rattle.records.specs.declared.lanes.Lane.{Lane}
 use Rattle.policy.specs.declared.sides.Side.{Side}
 use Rattle.policy.specs.Sides.{sides, side_number, side_at}
@@ -54,7 +54,7 @@ item_on n s i = side_number s * n + i
 -- the rule that a row gives on a side: its premises are there
 abbrev pub rule_to : ℕ → Side → Row → Option Side → Option ItemRule
 rule_to n s row None = None
-rule_to n s row (Some goal) = Some (record { from = item_on n s row.from; mate = on_some (item_on n s) row.mate; to = item_on n goal row.to })
+rule_to n s row (Some goal) = Some (record { from = item_on n s row.from; mate = option_map (item_on n s) row.mate; to = item_on n goal row.to })
 
 abbrev pub rule_on : Answers → ℕ → Side → Option Row → Option ItemRule
 rule_on answers n s None = None
