@@ -10,7 +10,8 @@ use Rattle.session.specs.declared.trail.TrailRecord.{TrailRecord}
 use Rattle.session.specs.Trails.{active, granted, cause_of}
 use Rattle.session.specs.States.{State, with_trail, worked, requested_one, requested, all_below, taken, outcome_of, settled, fits}
 use Rattle.session.specs.Least.{OneOf}
-use Rattle.session.specs.Histories.{Call, request, settle, active as active_call, reason, History, begun, reported, after_request, after_settle, called, history}
+use Rattle.session.specs.Histories.{Call, request, settle, active as active_call, reason, History, history}
+use Rattle.session.proofs.Pasts.{begun, reported, after_request, after_settle, called, past-history}
 use Rattle.session.proofs.Seeks.{seek-some}
 use Rattle.session.proofs.TrailFacts.{Active, At, active-left, active-right, active-head, at-active, among_map}
 use Rattle.session.proofs.ActiveSums.{sum_active-none}
@@ -198,4 +199,4 @@ module _ (table : Table) (laws : Laws table) where
   calls-keep n (c ∷ calls) h kept = calls-keep n calls (called table h c) (called-keeps n h c kept)
 
   pub history-kept : (n : ℕ) (calls : List Call) → Kept table n (history table n calls)
-  history-kept n calls = calls-keep n calls (begun n) (begun-kept n)
+  history-kept n calls = subst (Kept table n) (past-history table n calls) (calls-keep n calls (begun n) (begun-kept n))

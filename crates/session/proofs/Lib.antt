@@ -8,6 +8,7 @@ pub mod TrailFacts
 pub mod ActiveSums
 pub mod EntryCounts
 pub mod Derivations
+pub mod Pasts
 pub mod SettleKeeps
 pub mod Firing
 pub mod Invariant

@@ -4,7 +4,7 @@ use Rattle.rulebook.specs.declared.entries.Found.{Found}
 use Rattle.rulebook.specs.Tables.{Table, seek}
 use Rattle.session.specs.declared.trail.TrailRecord.{TrailRecord}
 use Rattle.session.specs.States.{State, worked, taken, Next, rest, due, or_next, next_among, next, Run, halted, stepped, settled, outcome_of}
-use Rattle.session.specs.Histories.{reported}
+use Rattle.session.proofs.Pasts.{reported}
 use Rattle.session.proofs.TrailFacts.{At, drop_next}
 
 -- f is the next entry to take
