@@ -38,7 +38,7 @@ granted-among : (s : State) (b : Option ℕ) → granted s.trail b ≡ true → 
 granted-among s None h = tt
 granted-among s (Some b) h = T_from_true _ h
 
-and_not_true : (a b : Bool) → (a && not b) ≡ true → (a ≡ true) × (b ≡ false)
+pub and_not_true : (a b : Bool) → (a && not b) ≡ true → (a ≡ true) × (b ≡ false)
 and_not_true true true h = absurd (cc)
 and_not_true true false h = (refl, refl)
 and_not_true false b h = absurd (cc)

@@ -2,12 +2,13 @@
 use Rattle.std.proofs.Common.{◌≡◌, ℕ, zero, suc, ◌+◌, ◌*◌, ◌<◌, ◌≤◌, Bool, true, false, cond, T, List, [], ◌∷◌, ◌++◌, take, Some, Ok, Err, sym, refl, ap, ◌∙◌, subst, inl, arith, add-one, append-nil, eqb-true}
 use Rattle.std.specs.List.{slice_get}
 use Rattle.std.proofs.lemmas.List.{take-append-drop}
-use Rattle.std.proofs.lemmas.Option.{none-some, same_Some}
+use Rattle.std.proofs.lemmas.Option.{none-some, same_Some, get_or_from_slice_get, slice_get_within}
 use Rattle.rulebook.specs.Tables.{Table, Laws}
 use Rattle.session.specs.declared.calls.Answer.{Answer}
 use Rattle.session.specs.declared.calls.Answer.TheVariants as answer
 use Rattle.session.specs.declared.calls.SessionFault.TheVariants as fault
-use Rattle.session.specs.Trails.{active}
+use Rattle.session.specs.Causes.{Because}
+use Rattle.session.specs.Trails.{active, blank}
 use Rattle.session.specs.States.{State, empty, settled, Run, outcome_of, fits}
 use Rattle.session.specs.Least.{Closed}
 use Rattle.session.specs.Histories.{Call, request, settle, active as active_call, reason, answered, left_by, left_by_all, answers_from, History, history}
@@ -22,6 +23,7 @@ use Rattle.session.proofs.SettleKeeps.{Ended}
 use Rattle.session.proofs.Firing.{Worked}
 use Rattle.session.proofs.Invariant.{Invariant}
 use Rattle.session.proofs.Kept.{Kept, settled-ends, history-kept}
+use Rattle.session.proofs.Reasons.{history-reasons}
 
 -- while a session is settled, its active items are closed by the rules
 pub settled-closed : (table : Table) (n : ℕ) (h : History) → Kept table n h → T h.settled → Closed table (Active h.state)
@@ -110,5 +112,6 @@ session-law t laws n calls =
       sound = λ i a. derived-least t h.accepted i (kept.invariant.core.sound i a);
       complete = λ z i least. least (active h.state.trail) kept.invariant.held (settled-closed t n h kept z);
       counted = answers-counted t laws n calls;
+      reasons = λ k r e. subst (Because t h.state.trail h.accepted k) (get_or_from_slice_get h.state.trail k r blank e) (history-reasons t n calls k (slice_get_within h.state.trail k r e));
       bounded = steps-most t laws n h kept;
     }

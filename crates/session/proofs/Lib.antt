@@ -13,4 +13,5 @@ pub mod SettleKeeps
 pub mod Firing
 pub mod Invariant
 pub mod Kept
+pub mod Reasons
 pub mod LawHolds
