@@ -3,6 +3,7 @@ use Rattle.std.specs.Prelude.{◌≡◌, ℕ, true, List, [], ◌∷◌, Some, N
 use Rattle.text.specs.Examples as text
 use Rattle.graph.specs.Examples as graph
 use Rattle.graph.specs.Examples.{example_words}
+use Rattle.graph.specs.Refusals.{of_file}
 use Rattle.policy.specs.Answers.{host_split}
 use Rattle.rulebook.specs.Tables.{Table}
 use Rattle.rulebook.specs.GraphTable.{graph_table}
@@ -11,6 +12,7 @@ use Rattle.session.specs.declared.calls.SessionFault.TheVariants.{Item}
 use Rattle.session.specs.declared.calls.Outcome.TheVariants.{Settled, Pending}
 use Rattle.session.specs.declared.calls.Answer.{Answer}
 use Rattle.session.specs.declared.calls.Answer.TheVariants as answer
+use Rattle.session.specs.Refusals.{session_refusal}
 use Rattle.session.specs.States.{State, opened, requested, settled, request_answer, settle_answer}
 use Rattle.session.specs.Histories.{Call, request, settle, answers_from, History, history}
 use Rattle.session.specs.SessionLaw.{sum_active}
@@ -92,6 +94,7 @@ pub record WorkedExamples : Type 0 where
   pub whole : example_history.state.trail ≡ example_trail
   pub steps : example_history.steps ≡ 11
   pub done : example_history.settled ≡ true
-  -- a request beyond the items is refused, one of the last item is not
+  -- a request beyond the items is refused, by number 10, one of the last item is not
   pub beyond : request_answer new_session (20 ∷ []) ≡ Err Item
+  pub number : session_refusal Item ≡ of_file 10
   pub last : request_answer new_session (19 ∷ []) ≡ Ok tt
