@@ -8,7 +8,7 @@ use Rattle.graph.specs.declared.rows.Opened.{Opened}
 use Rattle.graph.specs.Examples.{example, example_opened, example_words}
 use Rattle.graph.specs.Opening.{over, leaving, open_graph}
 use Rattle.rulebook.specs.Tables.{Table}
-use Rattle.session.specs.States.{State, settled, request_leaves, settle_answer, settle_leaves}
+use Rattle.session.specs.States.{State, settle_run, request_leaves, settle_answer, settle_leaves}
 use Rattle.graph.proofs.Worked.{examples}
 use Rattle.resolver.specs.WorkedExamples.{example_table, new_session, example_items, example_asked, WorkedExamples}
 use Rattle.resolver.proofs.PartsWorked.{part-examples}
@@ -39,14 +39,14 @@ worked-examples = record {
 pub worked-states : (t : Table) (start asked soon nearly end : State) → t ≡ example_table → start ≡ new_session →
     asked ≡ request_leaves start example_items → soon ≡ settle_leaves t 3 asked → nearly ≡ settle_leaves t 7 soon → end ≡ settle_leaves t 1 nearly →
     (asked ≡ example_asked)
-    × (soon ≡ (settled example_table 3 example_asked).state)
-    × (nearly ≡ (settled example_table 10 example_asked).state)
-    × (end ≡ (settled example_table 11 example_asked).state)
+    × (soon ≡ (settle_run example_table 3 example_asked).state)
+    × (nearly ≡ (settle_run example_table 10 example_asked).state)
+    × (end ≡ (settle_run example_table 11 example_asked).state)
 worked-states t start asked soon nearly end e s a b d f =
     let p : asked ≡ example_asked = a ∙ ap (λ u. request_leaves u example_items) s in
-    let q : soon ≡ (settled example_table 3 example_asked).state = b ∙ ap (λ v. settle_leaves v 3 asked) e ∙ ap (settle_leaves example_table 3) p in
-    let r : nearly ≡ (settled example_table 10 example_asked).state = d ∙ ap (λ v. settle_leaves v 7 soon) e ∙ ap (settle_leaves example_table 7) q in
-    let z : end ≡ (settled example_table 11 example_asked).state = f ∙ ap (λ v. settle_leaves v 1 nearly) e ∙ ap (settle_leaves example_table 1) r in
+    let q : soon ≡ (settle_run example_table 3 example_asked).state = b ∙ ap (λ v. settle_leaves v 3 asked) e ∙ ap (settle_leaves example_table 3) p in
+    let r : nearly ≡ (settle_run example_table 10 example_asked).state = d ∙ ap (λ v. settle_leaves v 7 soon) e ∙ ap (settle_leaves example_table 7) q in
+    let z : end ≡ (settle_run example_table 11 example_asked).state = f ∙ ap (λ v. settle_leaves v 1 nearly) e ∙ ap (settle_leaves example_table 1) r in
     (p, q, r, z)
 
 -- an answer of settle by the table of the example, in a state that is known

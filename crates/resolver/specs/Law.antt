@@ -24,6 +24,7 @@ abbrev pub left_unless : Table → State → List Call → Result (Unit {0}) Ses
 left_unless t s calls (Ok u) = left_by_all t s calls
 left_unless t s calls (Err e) = s
 
+-- and what the places for the answers then hold
 abbrev pub answers_unless : Table → State → List Call → List Answer → Result (Unit {0}) SessionFault → List Answer
 answers_unless t s calls places (Ok u) = answers_from t s calls ++ drop (length calls) places
 answers_unless t s calls places (Err e) = places

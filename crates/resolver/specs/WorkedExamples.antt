@@ -13,7 +13,7 @@ use Rattle.session.specs.declared.calls.Outcome.TheVariants.{Settled, Pending}
 use Rattle.session.specs.declared.calls.Answer.{Answer}
 use Rattle.session.specs.declared.calls.Answer.TheVariants as answer
 use Rattle.session.specs.Refusals.{session_refusal}
-use Rattle.session.specs.States.{State, opened, requested, settled, request_answer, settle_answer}
+use Rattle.session.specs.States.{State, opened, requested, settle_run, request_answer, settle_answer}
 use Rattle.session.specs.Histories.{Call, request, settle, answers_from, History, history}
 use Rattle.session.specs.SessionLaw.{sum_active}
 use Rattle.resolver.specs.PartExamples.{PartExamples}
@@ -85,9 +85,9 @@ pub record WorkedExamples : Type 0 where
   -- 11 steps leave nothing pending; 3 do not, and 10 do not
   pub accepted : request_answer new_session example_items ≡ Ok tt
   pub settles : settle_answer example_table 11 example_asked ≡ Ok (Settled 11)
-  pub trail : (settled example_table 11 example_asked).state.trail ≡ example_trail
+  pub trail : (settle_run example_table 11 example_asked).state.trail ≡ example_trail
   pub soon : settle_answer example_table 3 example_asked ≡ Ok Pending
-  pub active : active_count (settled example_table 3 example_asked).state.trail 20 ≡ 5
+  pub active : active_count (settle_run example_table 3 example_asked).state.trail 20 ≡ 5
   pub nearly : settle_answer example_table 10 example_asked ≡ Ok Pending
   -- so too in parts
   pub answers : answers_from example_table new_session example_calls ≡ example_answers

@@ -3,7 +3,7 @@ ghost use Rattle.std.specs.Prelude.{◌≡◌, true, length, Ok};
 ghost use Rattle.graph.specs.Examples.{example_words};
 ghost use Rattle.session.specs.declared.calls.Outcome.TheVariants.{Settled, Pending};
 ghost use Rattle.session.specs.Held.{trail_of, state};
-ghost use Rattle.session.specs.States.{settled};
+ghost use Rattle.session.specs.States.{settle_run};
 ghost use Rattle.resolver.specs.WorkedExamples.{active_count, example_table, new_session, example_asked, WorkedExamples};
 
 use graph::examples::EXAMPLE;
@@ -82,7 +82,7 @@ fn run<B: Rulebook>(book: &B, session: &mut Session<'_>) -> Course
     requires book { B.Rulebook.table book.now ≡ example_table }
     requires session { state session.old ≡ new_session }
     ensures answers { result ≡ record { requested = Ok tt; soon = Ok Pending; count = 5; nearly = Ok Pending; settled = Ok (Settled 1) } }
-    ensures state { state session.new ≡ (settled example_table 11 example_asked).state }
+    ensures state { state session.new ≡ (settle_run example_table 11 example_asked).state }
 {
     let requested = session.request(&[0, 6]);
     let soon = session.settle(book, 3);
@@ -100,7 +100,7 @@ fn run<B: Rulebook>(book: &B, session: &mut Session<'_>) -> Course
 
 // Whether the settled session tells what is active.
 fn tells_active(session: &Session<'_>) -> bool
-    requires { state session.now ≡ (settled example_table 11 example_asked).state }
+    requires { state session.now ≡ (settle_run example_table 11 example_asked).state }
     ensures { result ≡ true }
 {
     session.active(12) == Ok(true)
@@ -110,7 +110,7 @@ fn tells_active(session: &Session<'_>) -> bool
 
 // Whether it tells what made items active: nothing, one item, or two.
 fn tells_reasons(session: &Session<'_>) -> bool
-    requires { state session.now ≡ (settled example_table 11 example_asked).state }
+    requires { state session.now ≡ (settle_run example_table 11 example_asked).state }
     ensures { result ≡ true }
 {
     session.reason(6) == Ok(reason(None, None))

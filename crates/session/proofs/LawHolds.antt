@@ -9,7 +9,7 @@ use Rattle.session.specs.declared.calls.Answer.TheVariants as answer
 use Rattle.session.specs.declared.calls.SessionFault.TheVariants as fault
 use Rattle.session.specs.Causes.{Because}
 use Rattle.session.specs.Trails.{active, blank}
-use Rattle.session.specs.States.{State, empty, settled, Run, outcome_of, fits}
+use Rattle.session.specs.States.{State, empty, settle_run, Run, outcome_of, fits}
 use Rattle.session.specs.Least.{Closed}
 use Rattle.session.specs.Histories.{Call, request, settle, active as active_call, reason, answered, left_by, left_by_all, answers_from, History, history}
 use Rattle.session.specs.SessionLaw.{entries, sum_active, watch_entries, Counted, SessionLaw}
@@ -65,9 +65,9 @@ answer-call table s (c ∷ cs) (suc k) a e =
 
 module _ (table : Table) (laws : Laws table) where
   settle-stepped : (n : ℕ) (h : History) (b : ℕ) → Kept table n h → fits table h.state ≡ true →
-      Stepped table (after_settle h b (settled table b h.state)) (settled table b h.state).pending
+      Stepped table (after_settle h b (settle_run table b h.state)) (settle_run table b h.state).pending
   settle-stepped n h b kept f =
-      let r = settled table b h.state in
+      let r = settle_run table b h.state in
       let ends = settled-ends table laws n h b kept (eqb-true table.items h.state.items f) in
       ended-stepped table h.accepted (after_settle h b r) r.pending ends.0.0 ends.0.1 ends.1
 
@@ -76,7 +76,7 @@ module _ (table : Table) (laws : Laws table) where
   called-counted n h (request is) kept = tt
   called-counted n h (active_call i) kept = tt
   called-counted n h (reason i) kept = tt
-  called-counted n h (settle b) kept = go (fits table h.state) (settled table b h.state) (settle-stepped n h b kept)
+  called-counted n h (settle b) kept = go (fits table h.state) (settle_run table b h.state) (settle-stepped n h b kept)
     where
       ran : (r : Run) (p : Bool) → let q : Run = record { state = r.state; steps = r.steps; pending = p } in
           Stepped table (after_settle h b q) p → Counted table (after_settle h b q) (answer.Settled (Ok (outcome_of q)))

@@ -8,7 +8,7 @@ use Rattle.session.specs.declared.calls.Answer.TheVariants as answer
 use Rattle.session.specs.declared.calls.Outcome.{Outcome}
 use Rattle.session.specs.declared.calls.Outcome.TheVariants.{Settled, Pending}
 use Rattle.session.specs.declared.calls.SessionFault.TheVariants as fault
-use Rattle.session.specs.States.{State, empty, requested, all_below, settled, Run, outcome_of, fits}
+use Rattle.session.specs.States.{State, empty, requested, all_below, settle_run, Run, outcome_of, fits}
 use Rattle.session.specs.Histories.{Call, request, settle, active, reason, answered, left_by, left_by_all, answers_from, accepted_by, accepted_of, reported_by, settled_by, History, history}
 
 abbrev pub begun : ℕ → History
@@ -28,7 +28,7 @@ after_settle h b r = record { state = r.state; accepted = h.accepted; steps = h.
 -- a refused call and a question leave all as it was
 abbrev pub called : Table → History → Call → History
 called t h (request is) = cond (all_below h.state.items is) (after_request h is) h
-called t h (settle b) = cond (fits t h.state) (after_settle h b (settled t b h.state)) h
+called t h (settle b) = cond (fits t h.state) (after_settle h b (settle_run t b h.state)) h
 called t h (active i) = h
 called t h (reason i) = h
 
@@ -49,7 +49,7 @@ module _ (t : Table) where
       go : (b : Bool) → cond b (after_request h is) h ≡ told_after h (request is) (answer.Requested (cond b (Ok tt) (Err fault.Item))) (cond b (requested is h.state) h.state)
       go true = let z : h.steps ≡ h.steps + 0 = omega arith in λ i. record { state = requested is h.state; accepted = h.accepted ++ is; steps = z i; settled = false }
       go false = same h
-  called-told h (settle b) = go (fits t h.state) (settled t b h.state)
+  called-told h (settle b) = go (fits t h.state) (settle_run t b h.state)
     where
       ran : (r : Run) (p : Bool) → let q : Run = record { state = r.state; steps = r.steps; pending = p } in
           after_settle h b q ≡ told_after h (settle b) (answer.Settled (Ok (outcome_of q))) r.state

@@ -11,7 +11,7 @@ use Rattle.session.specs.declared.trail.TrailRecord.{TrailRecord}
 use Rattle.session.specs.Causes.{item_at, Because, asked_for, by_one, by_two}
 use Rattle.session.specs.Histories.{Call, request, settle, active as active_call, reason, History, history}
 use Rattle.session.specs.Least.{OneOf}
-use Rattle.session.specs.States.{State, with_trail, requested_one, requested, all_below, taken, settled, fits}
+use Rattle.session.specs.States.{State, with_trail, requested_one, requested, all_below, taken, settle_run, fits}
 use Rattle.session.specs.Trails.{active, later, find, granted, cause_of, blank}
 use Rattle.session.proofs.Derivations.{one-left, one-right}
 use Rattle.session.proofs.Finding.{found-active, found-within}
@@ -128,10 +128,10 @@ module _ (table : Table) where
       go false = reasons
   called-reasons h (settle b) reasons = go (fits table h.state)
     where
-      ends : Reasons h.accepted (settled table b h.state).state.trail
+      ends : Reasons h.accepted (settle_run table b h.state).state.trail
       ends = (settled-keeps table (λ k s. Reasons h.accepted s.trail) (λ k s x xs d e r. r) (λ k s x xs f d e r. taken-reasons h.accepted s x xs f d e r) b 0 h.state reasons).0
 
-      go : (f : Bool) → let g = cond f (after_settle h b (settled table b h.state)) h in Reasons g.accepted g.state.trail
+      go : (f : Bool) → let g = cond f (after_settle h b (settle_run table b h.state)) h in Reasons g.accepted g.state.trail
       go true = ends
       go false = reasons
 
