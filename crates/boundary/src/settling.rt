@@ -1,6 +1,7 @@
 // Settling a graph under host-split.
 ghost use Rattle.std.specs.Prelude.{◌≡◌, ◌≢◌, ℕ, ◌≤◌, ◌<◌, ◌++◌, List, length, drop, IfOk, IfErr};
 ghost use Rattle.boundary.specs.Numbers.{items_of, answer_of, state_of, settled_number, graph_settled};
+ghost use Rattle.boundary.specs.SettleLaw.{SettleLaw};
 ghost use Rattle.session.specs.Held.{state, trail_of};
 
 use policy::host_split::HostSplit;
@@ -64,6 +65,7 @@ fn settle_graph(
     ensures number { IfOk result (λ n. ◌≡◌ {A = ℕ × List ℕ} (n, active.new) (graph_settled words.now requests.now budget active.old)) }
     ensures below { IfOk result (λ n. n < 18446744073709551615) }
     ensures no_memory { IfErr result (λ e. active.new ≡ active.old) }
+    ensures law { IfOk result (λ n. SettleLaw words.now requests.now n active.new) }
 {
     let book = GraphBook::new(words, &HostSplit);
     let items = book.items();
@@ -94,6 +96,7 @@ pub extern "C" fn naiadiron_settle(
 ) -> u64
     ensures number { result ≢ 18446744073709551615 → ◌≡◌ {A = ℕ × List ℕ} (result, active.new) (graph_settled words.now requests.now budget active.old) }
     ensures no_memory { result ≡ 18446744073709551615 → active.new ≡ active.old }
+    ensures law { result ≢ 18446744073709551615 → SettleLaw words.now requests.now result active.new }
 {
     settle_graph(heap, words, requests, budget, active).unwrap_or(NO_MEMORY)
 }

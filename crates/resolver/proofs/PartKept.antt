@@ -21,7 +21,7 @@ use Rattle.session.specs.Least.{Closed}
 use Rattle.session.specs.Histories.{Call, history}
 use Rattle.session.specs.SessionLaw.{Active, SessionLaw}
 use Rattle.resolver.specs.Parts.{Agree}
-use Rattle.resolver.specs.PartLaw.{package_of, InPart, target_number, AskedIn, PartKept, PartLaw, OpenedPartLaw}
+use Rattle.resolver.specs.PartLaw.{package_of, InPart, target_number, AskedIn, PartKept, OpenedPartLaw}
 use Rattle.resolver.proofs.Simulations.{Decided, told, both, least-simulates}
 use Rattle.resolver.proofs.PartRules.{carry}
 use Rattle.resolver.proofs.PartAgrees.{agree-back, part-back}
@@ -145,10 +145,14 @@ part-kept answers S g h t u lawful resolved also agree of other m n calls others
 
 -- given the law of sessions
 module _ (law : (t : Table) → Laws t → (n : ℕ) (calls : List Call) → SessionLaw t n calls) where
-  pub part-law : PartLaw
+  -- for any tables that are those of the graphs
+  part-law : (answers : Answers) (S : ℕ → Bool) (g h : Graph) (t u : Table) → Lawful answers → Resolved g → Resolved h →
+      Agree answers S g h → Laws t → Laws u → TableOf answers g t → TableOf answers h u →
+      (m n : ℕ) (calls others : List Call) → PartKept S g h (history t m calls) (history u n others)
   part-law answers S g h t u lawful resolved also agree first second of other m n calls others =
       part-kept answers S g h t u lawful resolved also agree of other m n calls others (law t first m calls) (law u second n others)
 
+  -- and so by the words that opening wrote
   pub opened-part-law : OpenedPartLaw
   opened-part-law answers S g h file words other more lawful first second agree =
       part-law answers S g h _ _ lawful first.resolved second.resolved agree

@@ -2,14 +2,13 @@
 use Rattle.std.specs.Prelude.{◌≡◌, ℕ, ◌<◌, Bool, T, List}
 use Rattle.records.specs.Graphs.{Graph}
 use Rattle.graph.specs.Opening.{over}
-use Rattle.graph.specs.OpeningLaw.{Opens, Resolved}
+use Rattle.graph.specs.OpeningLaw.{Opens}
 use Rattle.graph.specs.Places.{Item, unit, dep, feat, item_count}
 use Rattle.graph.specs.Rules.{graph_words}
 use Rattle.policy.specs.declared.sides.Side.TheVariants.{Target}
 use Rattle.policy.specs.Answers.{Answers, Lawful}
-use Rattle.rulebook.specs.Tables.{Table, Laws}
 use Rattle.rulebook.specs.GraphTable.{graph_table}
-use Rattle.rulebook.specs.GraphRules.{Has, number_on, TableOf}
+use Rattle.rulebook.specs.GraphRules.{Has, number_on}
 use Rattle.session.specs.Least.{OneOf}
 use Rattle.session.specs.Histories.{Call, History, history}
 use Rattle.session.specs.SessionLaw.{Active}
@@ -46,15 +45,8 @@ pub record SameActive (S : ℕ → Bool) (g h : Graph) (a b : History) : Type 0 
 abbrev pub PartKept : (ℕ → Bool) → Graph → Graph → History → History → Type 0
 PartKept S g h a b = SameAsked S g h a b → T a.settled → T b.settled → SameActive S g h a b
 
--- so it is for two graphs that agree on the part, each with its table under the same lawful answers, after any calls on
--- a new session by each table
-abbrev pub PartLaw : Type 0
-PartLaw =
-    (answers : Answers) (S : ℕ → Bool) (g h : Graph) (t u : Table) → Lawful answers → Resolved g → Resolved h →
-    Agree answers S g h → Laws t → Laws u → TableOf answers g t → TableOf answers h u →
-    (m n : ℕ) (calls others : List Call) → PartKept S g h (history t m calls) (history u n others)
-
--- so by the words that opening wrote for the two graphs
+-- so it is for two graphs that opening accepts and that agree on the part, each by its graph book of the words that opening
+-- wrote, under the same lawful answers, after any calls on a new session by each book
 abbrev pub OpenedPartLaw : Type 0
 OpenedPartLaw =
     (answers : Answers) (S : ℕ → Bool) (g h : Graph) (file words other more : List ℕ) → Lawful answers →

@@ -1,5 +1,5 @@
--- Graphs that agree on a closed target part: a set S of packages whose dependencies lead from the target only to packages
--- in S. How a dependency that leads to the host goes on is not compared.
+-- Graphs that agree on a closed target part: a set S of packages whose dependencies, where they lead from the target to the
+-- target, lead to packages in S. How a dependency that leads to the host goes on is not compared.
 use Rattle.std.specs.Prelude.{◌≡◌, ℕ, zero, suc, ◌<◌, Bool, T, List, [], ◌∷◌, length, Some}
 use Rattle.records.specs.Graphs.{Dependency, Graph}
 use Rattle.graph.specs.OpeningLaw.{DependencyAt}

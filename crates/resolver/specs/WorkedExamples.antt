@@ -1,8 +1,9 @@
 -- The worked examples: what is so for the example graph, for feature strings, and for sessions by the example's words.
-use Rattle.std.specs.Prelude.{◌≡◌, ℕ, true, List, [], ◌∷◌, Some, None, Ok, Err}
+use Rattle.std.specs.Prelude.{◌≡◌, ℕ, true, false, List, [], ◌∷◌, ◌++◌, Some, None, Ok, Err}
 use Rattle.text.specs.Examples as text
 use Rattle.graph.specs.Examples as graph
 use Rattle.graph.specs.Examples.{example_words}
+use Rattle.graph.specs.Refusals.{of_file}
 use Rattle.policy.specs.Answers.{host_split}
 use Rattle.rulebook.specs.Tables.{Table}
 use Rattle.rulebook.specs.GraphTable.{graph_table}
@@ -11,9 +12,10 @@ use Rattle.session.specs.declared.calls.SessionFault.TheVariants.{Item}
 use Rattle.session.specs.declared.calls.Outcome.TheVariants.{Settled, Pending}
 use Rattle.session.specs.declared.calls.Answer.{Answer}
 use Rattle.session.specs.declared.calls.Answer.TheVariants as answer
-use Rattle.session.specs.States.{State, opened, requested, settled, request_answer, settle_answer}
+use Rattle.session.specs.Refusals.{session_refusal}
+use Rattle.session.specs.States.{State, opened, requested, settle_run, request_answer, settle_answer}
 use Rattle.session.specs.Histories.{Call, request, settle, answers_from, History, history}
-use Rattle.session.specs.SessionLaw.{sum_active}
+use Rattle.session.specs.SessionLaw.{sum_active, watch_entries}
 use Rattle.resolver.specs.PartExamples.{PartExamples}
 
 -- the rules of the example's words where a build dependency leads to the host
@@ -83,15 +85,21 @@ pub record WorkedExamples : Type 0 where
   -- 11 steps leave nothing pending; 3 do not, and 10 do not
   pub accepted : request_answer new_session example_items ≡ Ok tt
   pub settles : settle_answer example_table 11 example_asked ≡ Ok (Settled 11)
-  pub trail : (settled example_table 11 example_asked).state.trail ≡ example_trail
+  pub trail : (settle_run example_table 11 example_asked).state.trail ≡ example_trail
   pub soon : settle_answer example_table 3 example_asked ≡ Ok Pending
-  pub active : active_count (settled example_table 3 example_asked).state.trail 20 ≡ 5
+  pub active : active_count (settle_run example_table 3 example_asked).state.trail 20 ≡ 5
   pub nearly : settle_answer example_table 10 example_asked ≡ Ok Pending
   -- so too in parts
   pub answers : answers_from example_table new_session example_calls ≡ example_answers
   pub whole : example_history.state.trail ≡ example_trail
+  pub given : example_history.accepted ≡ example_items
   pub steps : example_history.steps ≡ 11
+  pub entries : watch_entries example_table example_history.state ≡ 11
   pub done : example_history.settled ≡ true
-  -- a request beyond the items is refused, one of the last item is not
+  -- a request that is refused gives nothing; one that is accepted, also of no items, is to be settled again
+  pub refused : (history example_table 20 (request (0 ∷ 20 ∷ []) ∷ [])).accepted ≡ []
+  pub again : (history example_table 20 (example_calls ++ request [] ∷ [])).settled ≡ false
+  -- a request beyond the items is refused, by number 10, one of the last item is not
   pub beyond : request_answer new_session (20 ∷ []) ≡ Err Item
+  pub number : session_refusal Item ≡ of_file 10
   pub last : request_answer new_session (19 ∷ []) ≡ Ok tt

@@ -1,11 +1,14 @@
 // The worked examples, run by the code.
-ghost use Rattle.std.specs.Prelude.{◌≡◌, true, Ok};
+ghost use Rattle.std.specs.Prelude.{◌≡◌, true, length, Ok};
+ghost use Rattle.graph.specs.Examples.{example_words};
 ghost use Rattle.session.specs.declared.calls.Outcome.TheVariants.{Settled, Pending};
 ghost use Rattle.session.specs.Held.{trail_of, state};
-ghost use Rattle.session.specs.States.{settled};
+ghost use Rattle.session.specs.States.{settle_run};
 ghost use Rattle.resolver.specs.WorkedExamples.{active_count, example_table, new_session, example_asked, WorkedExamples};
 
-use graph::examples::open_example;
+use graph::examples::EXAMPLE;
+use graph::opening::open_graph;
+use graph::refusals::Refusal;
 use graph::rows::Opened;
 use policy::host_split::HostSplit;
 use rulebook::book::Rulebook;
@@ -14,16 +17,7 @@ use session::calls::{Outcome, Reason, SessionFault};
 use session::session::Session;
 use session::trail::TrailRecord;
 
-// The word that means none.
-const NONE: u32 = u32::MAX;
-
-// The words of the example graph: four counts, then ten rows.
-const WORDS: [u32; 54] = [
-    3, 3, 4, 10, 3, NONE, 1, 0, 1, 0, NONE, 4, 1, 0, 4, NONE, 2, 1, 1, 6, NONE, 7, 6, 0, 7, NONE,
-    3, 0, 0, 7, 3, 8, 0, 1, 9, NONE, 8, 6, 0, 2, NONE, 5, 0, 0, 5, NONE, 1, 0, 1, 5, NONE, 9, 0, 1,
-];
-
-// What opening its file answers.
+// What opening the example file answers.
 const OPENED: Opened = Opened {
     read: 173,
     packages: 3,
@@ -88,7 +82,7 @@ fn run<B: Rulebook>(book: &B, session: &mut Session<'_>) -> Course
     requires book { B.Rulebook.table book.now ≡ example_table }
     requires session { state session.old ≡ new_session }
     ensures answers { result ≡ record { requested = Ok tt; soon = Ok Pending; count = 5; nearly = Ok Pending; settled = Ok (Settled 1) } }
-    ensures state { state session.new ≡ (settled example_table 11 example_asked).state }
+    ensures state { state session.new ≡ (settle_run example_table 11 example_asked).state }
 {
     let requested = session.request(&[0, 6]);
     let soon = session.settle(book, 3);
@@ -106,7 +100,7 @@ fn run<B: Rulebook>(book: &B, session: &mut Session<'_>) -> Course
 
 // Whether the settled session tells what is active.
 fn tells_active(session: &Session<'_>) -> bool
-    requires { state session.now ≡ (settled example_table 11 example_asked).state }
+    requires { state session.now ≡ (settle_run example_table 11 example_asked).state }
     ensures { result ≡ true }
 {
     session.active(12) == Ok(true)
@@ -116,7 +110,7 @@ fn tells_active(session: &Session<'_>) -> bool
 
 // Whether it tells what made items active: nothing, one item, or two.
 fn tells_reasons(session: &Session<'_>) -> bool
-    requires { state session.now ≡ (settled example_table 11 example_asked).state }
+    requires { state session.now ≡ (settle_run example_table 11 example_asked).state }
     ensures { result ≡ true }
 {
     session.reason(6) == Ok(reason(None, None))
@@ -136,27 +130,41 @@ fn settles<B: Rulebook>(book: &B) -> bool
     run(book, &mut session) == COURSE && tells_active(&session) && tells_reasons(&session)
 }
 
-// Whether a new session refuses an item beyond its own, and takes the last one.
+// Whether a new session refuses an item beyond its own, by number 10, and takes the last one.
 fn takes_only_its_own() -> bool
     ensures { result ≡ true }
 {
     let mut places = [UNUSED; ITEMS as usize];
     let mut marks = [None; ITEMS as usize];
     let mut session = Session::new(ITEMS, &mut places, &mut marks);
-    session.request(&[20]) == Err(SessionFault::Item) && session.request(&[19]) == Ok(())
+    session.request(&[ITEMS]) == Err(SessionFault::Item)
+        && Refusal::from(SessionFault::Item).number == 10
+        && session.request(&[19]) == Ok(())
 }
 
-// Runs the worked examples of all layers, and says whether all are answered as the table has them.
+// Whether opening the example file into these words is answered so.
+fn opens(words: &mut [u32]) -> bool
+    requires { length words.old ≡ 54 }
+    ensures answer { result ≡ true }
+    ensures words { words.new ≡ example_words }
+{
+    let file = EXAMPLE;
+    open_graph(&file, words) == Ok(OPENED)
+}
+
+// Runs the worked examples of all layers, each on what the layer below it left, and says whether all are answered as the
+// table has them.
 pub fn worked_examples() -> bool
     ensures answer { result ≡ true }
     ensures table { WorkedExamples }
 {
-    let words = WORDS;
+    let mut words = [0; 54];
+    let opened = opens(&mut words);
     let book = GraphBook::new(&words[..], &HostSplit);
     text::examples::worked_examples()
-        && open_example() == Ok(OPENED)
+        && opened
         && book.items() == ITEMS
-        && book.rows() == 10
+        && book.rows() == OPENED.rows
         && settles(&book)
         && takes_only_its_own()
 }

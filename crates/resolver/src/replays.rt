@@ -3,6 +3,7 @@ ghost use Rattle.std.specs.Prelude.{◌≡◌, ℕ, List, map, length, Ok};
 ghost use Rattle.session.specs.Held.{state, Keeps};
 ghost use Rattle.session.specs.Histories.{Call as Made, call_view, history};
 ghost use Rattle.resolver.specs.Law.{check_answers, left_unless, answers_unless, GoesOn};
+ghost use Rattle.resolver.specs.PartLaw.{OpenedPartLaw};
 
 use rulebook::book::Rulebook;
 use session::calls::{Answer, Call, SessionFault};
@@ -21,6 +22,7 @@ pub fn replay<B: Rulebook>(
     ensures state { state session.new ≡ left_unless (B.Rulebook.table book.now) (state session.old) (map call_view calls.now) result }
     ensures answers { answers.new ≡ answers_unless (B.Rulebook.table book.now) (state session.old) (map call_view calls.now) answers.old result }
     ensures keeps { Keeps session.new session.old }
+    ensures parts { OpenedPartLaw }
     ensures law { (n : ℕ) (before : List Made) → state session.old ≡ (history (B.Rulebook.table book.now) n before).state → result ≡ Ok tt → GoesOn (B.Rulebook.table book.now) n before (map call_view calls.now) (state session.new) answers.new }
 {
     if answers.len() < calls.len() {

@@ -8,9 +8,10 @@ use Rattle.rulebook.specs.declared.entries.Found.{Found}
 use Rattle.rulebook.specs.Tables.{Table, Among, Laws, seek}
 use Rattle.session.specs.declared.trail.TrailRecord.{TrailRecord}
 use Rattle.session.specs.Trails.{active, granted, cause_of}
-use Rattle.session.specs.States.{State, with_trail, worked, requested_one, requested, all_below, taken, outcome_of, settled, fits}
+use Rattle.session.specs.States.{State, with_trail, worked, requested_one, requested, all_below, taken, outcome_of, settle_run, fits}
 use Rattle.session.specs.Least.{OneOf}
-use Rattle.session.specs.Histories.{Call, request, settle, active as active_call, reason, History, begun, reported, after_request, after_settle, called, history}
+use Rattle.session.specs.Histories.{Call, request, settle, active as active_call, reason, History, history}
+use Rattle.session.proofs.Pasts.{begun, reported, after_request, after_settle, called, past-history}
 use Rattle.session.proofs.Seeks.{seek-some}
 use Rattle.session.proofs.TrailFacts.{Active, At, active-left, active-right, active-head, at-active, among_map}
 use Rattle.session.proofs.ActiveSums.{sum_active-none}
@@ -37,7 +38,7 @@ granted-among : (s : State) (b : Option ℕ) → granted s.trail b ≡ true → 
 granted-among s None h = tt
 granted-among s (Some b) h = T_from_true _ h
 
-and_not_true : (a b : Bool) → (a && not b) ≡ true → (a ≡ true) × (b ≡ false)
+pub and_not_true : (a b : Bool) → (a && not b) ≡ true → (a ≡ true) × (b ≡ false)
 and_not_true true true h = absurd (cc)
 and_not_true true false h = (refl, refl)
 and_not_true false b h = absurd (cc)
@@ -144,10 +145,10 @@ module _ (table : Table) (laws : Laws table) where
       (subst (λ l. Invariant table l k (requested is (requested_one s i))) (append_assoc asked (i ∷ []) is) more.0, more.1 ∙ one.1)
 
   -- after an accepted settle
-  pub settled-ends : (n : ℕ) (h : History) (b : ℕ) → Kept table n h → table.items ≡ h.state.items → let r = settled table b h.state in
+  pub settled-ends : (n : ℕ) (h : History) (b : ℕ) → Kept table n h → table.items ≡ h.state.items → let r = settle_run table b h.state in
       Settles h.accepted (h.steps + reported b (outcome_of r)) r.state × Ended table r.state r.pending
   settled-ends n h b kept same =
-      let r = settled table b h.state in
+      let r = settle_run table b h.state in
       let ends = settled-keeps table (Settles h.accepted) (moved-keeps h.accepted) (taken-keeps h.accepted) b h.steps h.state (kept.invariant, same) in
       (subst (λ j. Settles h.accepted (h.steps + j) r.state) (sym (reported-steps table b h.state)) ends.0, ends.1)
 
@@ -160,10 +161,10 @@ module _ (table : Table) (laws : Laws table) where
   called-keeps n h (reason i) kept = kept
   called-keeps n h (settle b) kept = go (fits table h.state) refl
     where
-      go : (t : Bool) → fits table h.state ≡ t → Kept table n (cond t (after_settle h b (settled table b h.state)) h)
+      go : (t : Bool) → fits table h.state ≡ t → Kept table n (cond t (after_settle h b (settle_run table b h.state)) h)
       go false e = kept
       go true e =
-          let r = settled table b h.state in
+          let r = settle_run table b h.state in
           let same : table.items ≡ h.state.items = eqb-true table.items h.state.items e in
           let ends = settled-ends n h b kept same in
           record { invariant = ends.0.0; count = sym ends.0.1 ∙ same ∙ kept.count; rests = ended-rests r.state r.pending ends.1 }
@@ -198,4 +199,4 @@ module _ (table : Table) (laws : Laws table) where
   calls-keep n (c ∷ calls) h kept = calls-keep n calls (called table h c) (called-keeps n h c kept)
 
   pub history-kept : (n : ℕ) (calls : List Call) → Kept table n (history table n calls)
-  history-kept n calls = calls-keep n calls (begun n) (begun-kept n)
+  history-kept n calls = subst (Kept table n) (past-history table n calls) (calls-keep n calls (begun n) (begun-kept n))

@@ -1,23 +1,29 @@
 -- The law of sessions: soundness, completeness and the step sum.
-use Rattle.std.proofs.Common.{◌≡◌, ℕ, ◌*◌, ◌≤◌, Bool, true, false, T, List, ◌++◌, take, sym, ap, ◌∙◌, subst, inl, arith, append-nil, eqb→eq}
-use Rattle.std.proofs.lemmas.Bool.{cond-true}
+use Rattle.std.proofs.Common.{◌≡◌, ℕ, zero, suc, ◌+◌, ◌*◌, ◌<◌, ◌≤◌, Bool, true, false, cond, T, List, [], ◌∷◌, ◌++◌, take, Some, Ok, Err, sym, refl, ap, ◌∙◌, subst, inl, arith, add-one, append-nil, eqb-true}
+use Rattle.std.specs.List.{slice_get}
 use Rattle.std.proofs.lemmas.List.{take-append-drop}
-use Rattle.std.proofs.lemmas.List.Sums.{fold_push}
+use Rattle.std.proofs.lemmas.Option.{none-some, same_Some, get_or_from_slice_get, slice_get_within}
 use Rattle.rulebook.specs.Tables.{Table, Laws}
-use Rattle.session.specs.Trails.{active}
-use Rattle.session.specs.States.{settled, fits}
+use Rattle.session.specs.declared.calls.Answer.{Answer}
+use Rattle.session.specs.declared.calls.Answer.TheVariants as answer
+use Rattle.session.specs.declared.calls.SessionFault.TheVariants as fault
+use Rattle.session.specs.Causes.{Because}
+use Rattle.session.specs.Trails.{active, blank}
+use Rattle.session.specs.States.{State, empty, settle_run, Run, outcome_of, fits}
 use Rattle.session.specs.Least.{Closed}
-use Rattle.session.specs.Histories.{Call, settle, History, begun, after_settle, called, history}
+use Rattle.session.specs.Histories.{Call, request, settle, active as active_call, reason, answered, left_by, left_by_all, answers_from, History, history}
 use Rattle.session.specs.SessionLaw.{entries, sum_active, watch_entries, Counted, SessionLaw}
 use Rattle.session.proofs.Seeks.{seek-some}
 use Rattle.session.proofs.TrailFacts.{Active, among_map}
 use Rattle.session.proofs.ActiveSums.{total}
 use Rattle.session.proofs.EntryCounts.{before_all, before_less, before_most, watched_most}
 use Rattle.session.proofs.Derivations.{derived-least}
+use Rattle.session.proofs.Pasts.{after_settle, called, history-push}
 use Rattle.session.proofs.SettleKeeps.{Ended}
 use Rattle.session.proofs.Firing.{Worked}
 use Rattle.session.proofs.Invariant.{Invariant}
-use Rattle.session.proofs.Kept.{Kept, true_from_T, settled-ends, history-kept}
+use Rattle.session.proofs.Kept.{Kept, settled-ends, history-kept}
+use Rattle.session.proofs.Reasons.{history-reasons}
 
 -- while a session is settled, its active items are closed by the rules
 pub settled-closed : (table : Table) (n : ℕ) (h : History) → Kept table n h → T h.settled → Closed table (Active h.state)
@@ -32,35 +38,71 @@ settled-closed table n h kept z i r e q a b =
         subst (λ l. T (active l j)) (sym e) m
 
 -- the step sum where no trail item is left, and where an entry is due
-ended-counted : (table : Table) (asked : List ℕ) (h : History) (pending : Bool) → Invariant table asked h.steps h.state → table.items ≡ h.state.items →
-    Ended table h.state pending → Counted table h pending
-ended-counted table asked h pending v same = go pending
+abbrev Stepped : Table → History → Bool → Type 0
+Stepped table h true = h.steps < watch_entries table h.state
+Stepped table h false = h.steps ≡ watch_entries table h.state
+
+ended-stepped : (table : Table) (asked : List ℕ) (h : History) (pending : Bool) → Invariant table asked h.steps h.state → table.items ≡ h.state.items →
+    Ended table h.state pending → Stepped table h pending
+ended-stepped table asked h pending v same = go pending
   where
     watched : watch_entries table h.state ≡ total (entries table) h.state.trail
     watched = ap (sum_active (entries table) h.state.trail) same ∙ v.core.whole (entries table)
 
-    go : (b : Bool) → Ended table h.state b → Counted table h b
+    go : (b : Bool) → Ended table h.state b → Stepped table h b
     go false e = v.core.spent ∙ before_all table h.state.trail h.state.place h.state.row e ∙ sym watched
     go true (f, (x, xs, d, q)) =
         omega (arith, v.core.spent, watched, before_less table h.state.trail h.state.place h.state.row x xs f d (seek-some table x.item h.state.row f q))
 
+-- the call that gave an answer, and the calls before it
+answer-call : (table : Table) (s : State) (calls : List Call) (k : ℕ) (a : Answer) → slice_get (answers_from table s calls) k ≡ Some a →
+    (front : List Call) × (c : Call) × (take (suc k) calls ≡ front ++ c ∷ []) × (answered table (left_by_all table s front) c ≡ a)
+answer-call table s [] k a e = absurd (none-some a e)
+answer-call table s (c ∷ cs) zero a e = ([], c, refl, same_Some _ a e)
+answer-call table s (c ∷ cs) (suc k) a e =
+    let more = answer-call table (left_by table s c) cs k a e in
+    (c ∷ more.0, more.1, ap (λ l. c ∷ l) more.2, more.3)
+
 module _ (table : Table) (laws : Laws table) where
-  pub settled-counted : (n : ℕ) (h : History) (b : ℕ) → Kept table n h → T (fits table h.state) → Counted table (called table h (settle b)) (settled table b h.state).pending
-  settled-counted n h b kept f =
-      let r = settled table b h.state in
-      let ends = settled-ends table laws n h b kept (eqb→eq table.items h.state.items f) in
-      subst (λ g. Counted table g r.pending) (sym (cond-true (fits table h.state) (after_settle h b r) h (true_from_T _ f)))
-      (ended-counted table h.accepted (after_settle h b r) r.pending ends.0.0 ends.0.1 ends.1)
+  settle-stepped : (n : ℕ) (h : History) (b : ℕ) → Kept table n h → fits table h.state ≡ true →
+      Stepped table (after_settle h b (settle_run table b h.state)) (settle_run table b h.state).pending
+  settle-stepped n h b kept f =
+      let r = settle_run table b h.state in
+      let ends = settled-ends table laws n h b kept (eqb-true table.items h.state.items f) in
+      ended-stepped table h.accepted (after_settle h b r) r.pending ends.0.0 ends.0.1 ends.1
+
+  -- after a call its answer tells of the step sum
+  called-counted : (n : ℕ) (h : History) (c : Call) → Kept table n h → Counted table (called table h c) (answered table h.state c)
+  called-counted n h (request is) kept = tt
+  called-counted n h (active_call i) kept = tt
+  called-counted n h (reason i) kept = tt
+  called-counted n h (settle b) kept = go (fits table h.state) (settle_run table b h.state) (settle-stepped n h b kept)
+    where
+      ran : (r : Run) (p : Bool) → let q : Run = record { state = r.state; steps = r.steps; pending = p } in
+          Stepped table (after_settle h b q) p → Counted table (after_settle h b q) (answer.Settled (Ok (outcome_of q)))
+      ran r true z = z
+      ran r false z = z
+
+      go : (f : Bool) (r : Run) → (f ≡ true → Stepped table (after_settle h b r) r.pending) →
+          Counted table (cond f (after_settle h b r) h) (answer.Settled (cond f (Ok (outcome_of r)) (Err fault.Item)))
+      go true r z = ran r r.pending (z refl)
+      go false r z = tt
+
+  answers-counted : (n : ℕ) (calls : List Call) (k : ℕ) (a : Answer) → slice_get (answers_from table (empty n) calls) k ≡ Some a → Counted table (history table n (take (k + 1) calls)) a
+  answers-counted n calls k a e =
+      let (front, c, begins, told) = answer-call table (empty n) calls k a e in
+      let same : history table n (take (k + 1) calls) ≡ called table (history table n front) c =
+      ap (λ j. history table n (take j calls)) (add-one k) ∙ ap (history table n) begins ∙ history-push table n front c in
+      subst (Counted table (history table n (take (k + 1) calls))) told
+      (subst (λ h. Counted table h (answered table (left_by_all table (empty n) front) c)) (sym same)
+      (called-counted n (history table n front) c (history-kept table laws n front)))
 
   -- the step sum is at most the number of entries that the table has room for
-  pub steps_most : (n : ℕ) (h : History) → Kept table n h → h.steps ≤ table.items * table.rows
-  steps_most n h kept =
+  steps-most : (n : ℕ) (h : History) → Kept table n h → h.steps ≤ table.items * table.rows
+  steps-most n h kept =
       let c = kept.invariant.core in
       let s = h.state in
       omega (arith, c.spent, c.whole (entries table), before_most table s.trail s.place s.row c.low, watched_most table laws s.trail s.items)
-
-  pub history-steps : (n : ℕ) (calls : List Call) → (history table n calls).steps ≤ table.items * table.rows
-  history-steps n calls = steps_most n (history table n calls) (history-kept table laws n calls)
 
 pub session-law : (t : Table) → Laws t → (n : ℕ) (calls : List Call) → SessionLaw t n calls
 session-law t laws n calls =
@@ -69,5 +111,7 @@ session-law t laws n calls =
     record {
       sound = λ i a. derived-least t h.accepted i (kept.invariant.core.sound i a);
       complete = λ z i least. least (active h.state.trail) kept.invariant.held (settled-closed t n h kept z);
-      counted = λ b f. subst (λ g. Counted t g (settled t b h.state).pending) (sym (fold_push (called t) (begun n) calls (settle b))) (settled-counted t laws n h b kept f);
+      counted = answers-counted t laws n calls;
+      reasons = λ k r e. subst (Because t h.state.trail h.accepted k) (get_or_from_slice_get h.state.trail k r blank e) (history-reasons t n calls k (slice_get_within h.state.trail k r e));
+      bounded = steps-most t laws n h kept;
     }

@@ -8,8 +8,10 @@ pub mod TrailFacts
 pub mod ActiveSums
 pub mod EntryCounts
 pub mod Derivations
+pub mod Pasts
 pub mod SettleKeeps
 pub mod Firing
 pub mod Invariant
 pub mod Kept
+pub mod Reasons
 pub mod LawHolds

@@ -5,7 +5,7 @@ use Rattle.std.proofs.lemmas.Option.{none-some, same_Some}
 use Rattle.rulebook.specs.declared.entries.Found.{Found}
 use Rattle.rulebook.specs.Tables.{Table, seek}
 use Rattle.session.specs.declared.trail.TrailRecord.{TrailRecord}
-use Rattle.session.specs.States.{State, worked, worked_item, item_of, taken, rest, or_next, next_among, next, Run, one_more, halted, stepped, settled}
+use Rattle.session.specs.States.{State, worked, worked_item, item_of, taken, rest, or_next, next_among, next, Run, one_more, halted, stepped, settle_run}
 
 -- k steps before a run
 abbrev pub after : ℕ → Run → Run
@@ -33,14 +33,14 @@ module _ (t : Table) where
     ahead = drop s.place s.trail
 
     -- with no trail item left
-    at-rest : worked_item s ≡ None → (b : ℕ) → settled t b s ≡ record { state = s; steps = 0; pending = false }
+    at-rest : worked_item s ≡ None → (b : ℕ) → settle_run t b s ≡ record { state = s; steps = 0; pending = false }
     at-rest e b = go ahead refl e b
       where
-        by : (b : ℕ) → next t s ≡ rest s → settled t b s ≡ record { state = s; steps = 0; pending = false }
+        by : (b : ℕ) → next t s ≡ rest s → settle_run t b s ≡ record { state = s; steps = 0; pending = false }
         by zero q = ap halted q
-        by (suc b) q = ap (stepped (settled t b)) q
+        by (suc b) q = ap (stepped (settle_run t b)) q
 
-        go : (rs : List TrailRecord) → ahead ≡ rs → item_of ahead ≡ None → (b : ℕ) → settled t b s ≡ record { state = s; steps = 0; pending = false }
+        go : (rs : List TrailRecord) → ahead ≡ rs → item_of ahead ≡ None → (b : ℕ) → settle_run t b s ≡ record { state = s; steps = 0; pending = false }
         go [] q e b = by b (ap (λ rs. next_among t rs s) q)
         go (r ∷ rs) q e b = absurd (none-some r.item (sym e ∙ ap item_of q))
 
@@ -60,29 +60,29 @@ module _ (t : Table) where
               ∙ ap (λ xs. or_next o s (next_among t xs (worked s (s.place + 1) 0))) on
 
       -- where it answers none, the next trail item is worked
-      on-move : seek t i s.row ≡ None → (b : ℕ) → settled t b s ≡ settled t b (worked s (s.place + 1) 0)
+      on-move : seek t i s.row ≡ None → (b : ℕ) → settle_run t b s ≡ settle_run t b (worked s (s.place + 1) 0)
       on-move e zero = ap halted (next-by None e)
-      on-move e (suc b) = ap (stepped (settled t b)) (next-by None e)
+      on-move e (suc b) = ap (stepped (settle_run t b)) (next-by None e)
 
       module _ (f : Found) (e : seek t i s.row ≡ Some f) where
-        on-stop : settled t 0 s ≡ record { state = s; steps = 0; pending = true }
+        on-stop : settle_run t 0 s ≡ record { state = s; steps = 0; pending = true }
         on-stop = ap halted (next-by (Some f) e)
 
-        on-take : (b : ℕ) → settled t (suc b) s ≡ one_more (settled t b (taken s f))
-        on-take b = ap (stepped (settled t b)) (next-by (Some f) e)
+        on-take : (b : ℕ) → settle_run t (suc b) s ≡ one_more (settle_run t b (taken s f))
+        on-take b = ap (stepped (settle_run t b)) (next-by (Some f) e)
 
   -- from where a run with a budget began, k steps led here, and the rest of the budget goes on from here
   abbrev pub Leads : ℕ → State → ℕ → State → Type 0
-  Leads budget s k u = (k ≤ budget) × (settled t budget s ≡ after k (settled t (budget - k) u))
+  Leads budget s k u = (k ≤ budget) × (settle_run t budget s ≡ after k (settle_run t (budget - k) u))
 
   pub lead-start : (budget : ℕ) (s : State) → Leads budget s 0 s
   lead-start budget s =
       let z : budget ≡ budget - 0 = omega arith in
-      let y : (settled t (budget - 0) s).steps ≡ 0 + (settled t (budget - 0) s).steps = omega arith in
-      (omega arith, ap (λ b. settled t b s) z ∙ (λ i. record { state = (settled t (budget - 0) s).state; steps = y i; pending = (settled t (budget - 0) s).pending }))
+      let y : (settle_run t (budget - 0) s).steps ≡ 0 + (settle_run t (budget - 0) s).steps = omega arith in
+      (omega arith, ap (λ b. settle_run t b s) z ∙ (λ i. record { state = (settle_run t (budget - 0) s).state; steps = y i; pending = (settle_run t (budget - 0) s).pending }))
 
   module _ (budget : ℕ) (s : State) (k : ℕ) (u : State) (leads : Leads budget s k u) where
-    pub lead-rest : worked_item u ≡ None → settled t budget s ≡ record { state = u; steps = k; pending = false }
+    pub lead-rest : worked_item u ≡ None → settle_run t budget s ≡ record { state = u; steps = k; pending = false }
     lead-rest e =
         let z : k + 0 ≡ k = omega arith in
         leads.1 ∙ ap (after k) (at-rest u e (budget - k)) ∙ (λ i. record { state = u; steps = z i; pending = false })
@@ -92,13 +92,13 @@ module _ (t : Table) where
       lead-move e = (leads.0, leads.1 ∙ ap (after k) (on-move u i item e (budget - k)))
 
       module _ (f : Found) (e : seek t i u.row ≡ Some f) where
-        pub lead-stop : k ≡ budget → settled t budget s ≡ record { state = u; steps = k; pending = true }
+        pub lead-stop : k ≡ budget → settle_run t budget s ≡ record { state = u; steps = k; pending = true }
         lead-stop q =
             let z : budget - k ≡ 0 = omega arith in
             let y : k + 0 ≡ k = omega arith in
-            leads.1 ∙ ap (λ b. after k (settled t b u)) z ∙ ap (after k) (on-stop u i item f e) ∙ (λ j. record { state = u; steps = y j; pending = true })
+            leads.1 ∙ ap (λ b. after k (settle_run t b u)) z ∙ ap (after k) (on-stop u i item f e) ∙ (λ j. record { state = u; steps = y j; pending = true })
 
         pub lead-take : k < budget → Leads budget s (k + 1) (taken u f)
         lead-take l =
             let z : budget - k ≡ suc (budget - (k + 1)) = omega arith in
-            (omega arith, leads.1 ∙ ap (λ b. after k (settled t b u)) z ∙ ap (after k) (on-take u i item f e (budget - (k + 1))) ∙ after-one k (settled t (budget - (k + 1)) (taken u f)))
+            (omega arith, leads.1 ∙ ap (λ b. after k (settle_run t b u)) z ∙ ap (after k) (on-take u i item f e (budget - (k + 1))) ∙ after-one k (settle_run t (budget - (k + 1)) (taken u f)))

@@ -3,8 +3,8 @@ use Rattle.std.proofs.Common.{◌≡◌, ℕ, zero, suc, ◌+◌, Bool, true, fa
 use Rattle.rulebook.specs.declared.entries.Found.{Found}
 use Rattle.rulebook.specs.Tables.{Table, seek}
 use Rattle.session.specs.declared.trail.TrailRecord.{TrailRecord}
-use Rattle.session.specs.States.{State, worked, taken, Next, rest, due, or_next, next_among, next, Run, halted, stepped, settled, outcome_of}
-use Rattle.session.specs.Histories.{reported}
+use Rattle.session.specs.States.{State, worked, taken, Next, rest, due, or_next, next_among, next, Run, halted, stepped, settle_run, outcome_of}
+use Rattle.session.proofs.Pasts.{reported}
 use Rattle.session.proofs.TrailFacts.{At, drop_next}
 
 -- f is the next entry to take
@@ -37,7 +37,7 @@ module _ (table : Table) (P : ℕ → State → Type 0)
   abbrev pub Results : ℕ → Run → Type 0
   Results k r = P (k + r.steps) r.state × Ended table r.state r.pending
 
-  pub settled-keeps : (b k : ℕ) (s : State) → P k s → Results k (settled table b s)
+  pub settled-keeps : (b k : ℕ) (s : State) → P k s → Results k (settle_run table b s)
   settled-keeps zero k s p = go (next table s) (next-keeps k (drop s.place s.trail) s refl p)
     where
       go : (n : Next) → Reached table (P k) n → Results k (halted n)
@@ -45,15 +45,15 @@ module _ (table : Table) (P : ℕ → State → Type 0)
       go (due t f) h = (let e : k ≡ k + 0 = omega arith in subst (λ j. P j t) e h.0, (f, h.1))
   settled-keeps (suc b) k s p = go (next table s) (next-keeps k (drop s.place s.trail) s refl p) (settled-keeps b (k + 1))
     where
-      go : (n : Next) → Reached table (P k) n → ((t : State) → P (k + 1) t → Results (k + 1) (settled table b t)) → Results k (stepped (settled table b) n)
+      go : (n : Next) → Reached table (P k) n → ((t : State) → P (k + 1) t → Results (k + 1) (settle_run table b t)) → Results k (stepped (settle_run table b) n)
       go (rest t) h more = (let e : k ≡ k + 0 = omega arith in subst (λ j. P j t) e h.0, h.1)
       go (due t f) h more =
-          let r = settled table b (taken t f) in
+          let r = settle_run table b (taken t f) in
           let m = more (taken t f) (takes k t h.1.0 h.1.1 f h.1.2 h.1.3 h.0) in
           (let e : k + 1 + r.steps ≡ k + (r.steps + 1) = omega arith in subst (λ j. P j r.state) e m.0, m.1)
 
 -- only when the budget is spent something is pending
-pub pending-spent : (table : Table) (b : ℕ) (s : State) → (settled table b s).pending ≡ true → (settled table b s).steps ≡ b
+pub pending-spent : (table : Table) (b : ℕ) (s : State) → (settle_run table b s).pending ≡ true → (settle_run table b s).steps ≡ b
 pending-spent table zero s h = go (next table s)
   where
     go : (n : Next) → (halted n).steps ≡ 0
@@ -61,14 +61,14 @@ pending-spent table zero s h = go (next table s)
     go (due t f) = refl
 pending-spent table (suc b) s h = go (next table s) h (pending-spent table b)
   where
-    go : (n : Next) → (stepped (settled table b) n).pending ≡ true →
-        ((t : State) → (settled table b t).pending ≡ true → (settled table b t).steps ≡ b) → (stepped (settled table b) n).steps ≡ suc b
+    go : (n : Next) → (stepped (settle_run table b) n).pending ≡ true →
+        ((t : State) → (settle_run table b t).pending ≡ true → (settle_run table b t).steps ≡ b) → (stepped (settle_run table b) n).steps ≡ suc b
     go (rest t) h more = cc
     go (due t f) h more = omega (arith, more _ h)
 
 -- so the steps that are reported are those that were taken
-pub reported-steps : (table : Table) (b : ℕ) (s : State) → reported b (outcome_of (settled table b s)) ≡ (settled table b s).steps
-reported-steps table b s = go (settled table b s) (pending-spent table b s)
+pub reported-steps : (table : Table) (b : ℕ) (s : State) → reported b (outcome_of (settle_run table b s)) ≡ (settle_run table b s).steps
+reported-steps table b s = go (settle_run table b s) (pending-spent table b s)
   where
     go : (r : Run) → (r.pending ≡ true → r.steps ≡ b) → reported b (outcome_of r) ≡ r.steps
     go r h = cases r.pending h

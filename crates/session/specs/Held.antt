@@ -11,7 +11,8 @@ trail_of s = take s.trail.len s.trail.places.now
 abbrev pub state : Session → State
 state s = record { items = s.items; trail = trail_of s; place = s.place; row = s.row }
 
--- s is where u was, its trail is no shorter, and what is beyond the trail and the marks of the items is as it was in u
+-- session s is what a call made of session u: the item count and the memory are the same, the trail is no shorter, and the
+-- places beyond the trail and the marks from the item count on are as they were
 pub record Keeps (s u : Session) : Type 0 where
   pub items : s.items ≡ u.items
   pub longer : u.trail.len ≤ s.trail.len

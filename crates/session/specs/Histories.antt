@@ -1,13 +1,13 @@
 -- The calls made on a new session by one rulebook, and what follows from them.
-use Rattle.std.specs.Prelude.{ℕ, zero, suc, ◌+◌, Bool, false, cond, not, List, [], ◌∷◌, ◌++◌, fold}
+use Rattle.std.specs.Prelude.{ℕ, zero, suc, Bool, true, false, List, [], ◌∷◌, ◌++◌, Ok, fold}
+use Rattle.std.specs.List.{zip, flat_map, sum_by}
 use Rattle.rulebook.specs.Tables.{Table}
 use Rattle.session.specs.declared.calls.Call as code
 use Rattle.session.specs.declared.calls.Call.TheVariants as variant
-use Rattle.session.specs.declared.calls.Outcome.{Outcome}
 use Rattle.session.specs.declared.calls.Outcome.TheVariants.{Settled, Pending}
 use Rattle.session.specs.declared.calls.Answer.{Answer}
 use Rattle.session.specs.declared.calls.Answer.TheVariants as answer
-use Rattle.session.specs.States.{State, empty, requested, all_below, settled, Run, outcome_of, fits, request_answer, request_leaves, settle_answer, settle_leaves, active_answer, reason_answer}
+use Rattle.session.specs.States.{State, empty, request_answer, request_leaves, settle_answer, settle_leaves, active_answer, reason_answer}
 
 pub data Call : Type 0 where
   request : List ℕ → Call
@@ -43,37 +43,47 @@ abbrev pub answers_from : Table → State → List Call → List Answer
 answers_from t s [] = []
 answers_from t s (c ∷ cs) = answered t s c ∷ answers_from t (left_by t s c) cs
 
--- a session with its past: the items of the accepted requests, the steps that were reported, and whether it is settled
+-- What calls and their answers tell:
+
+-- the items of the requests that were accepted;
+abbrev pub accepted_by : Call → Answer → List ℕ
+accepted_by (request is) (answer.Requested (Ok u)) = is
+accepted_by _ _ = []
+
+abbrev pub accepted_of : List Call → List Answer → List ℕ
+accepted_of calls answers = flat_map (λ m. accepted_by m.0 m.1) (zip calls answers)
+
+-- the sum of the steps that settle reported: "pending" reports the budget;
+abbrev pub reported_by : Call → Answer → ℕ
+reported_by (settle b) (answer.Settled (Ok (Settled n))) = n
+reported_by (settle b) (answer.Settled (Ok Pending)) = b
+reported_by _ _ = 0
+
+abbrev pub step_sum : List Call → List Answer → ℕ
+step_sum calls answers = sum_by (λ m. reported_by m.0 m.1) (zip calls answers)
+
+-- and whether a session is settled: from an answer "nothing pending" until an accepted request, or an answer "pending"
+abbrev pub settled_by : Bool → Answer → Bool
+settled_by before (answer.Settled (Ok (Settled n))) = true
+settled_by before (answer.Settled (Ok Pending)) = false
+settled_by before (answer.Requested (Ok u)) = false
+settled_by before _ = before
+
+abbrev pub settled_of : List Answer → Bool
+settled_of answers = fold settled_by false answers
+
+-- what some calls leave, and what they and their answers tell
 pub record History : Type 0 where
   pub state : State
   pub accepted : List ℕ
   pub steps : ℕ
   pub settled : Bool
 
-abbrev pub begun : ℕ → History
-begun n = record { state = empty n; accepted = []; steps = 0; settled = false }
-
--- an answer "pending" reports the budget
-abbrev pub reported : ℕ → Outcome → ℕ
-reported b (Settled n) = n
-reported b Pending = b
-
-abbrev pub after_request : History → List ℕ → History
-after_request h is = record { state = requested is h.state; accepted = h.accepted ++ is; steps = h.steps; settled = false }
-
-abbrev pub after_settle : History → ℕ → Run → History
-after_settle h b r = record { state = r.state; accepted = h.accepted; steps = h.steps + reported b (outcome_of r); settled = not r.pending }
-
--- a refused call and a question leave all as it was
-abbrev pub called : Table → History → Call → History
-called t h (request is) = cond (all_below h.state.items is) (after_request h is) h
-called t h (settle b) = cond (fits t h.state) (after_settle h b (settled t b h.state)) h
-called t h (active i) = h
-called t h (reason i) = h
-
 -- after some calls on a new session with n items
 abbrev pub history : Table → ℕ → List Call → History
-history t n calls = fold (called t) (begun n) calls
+history t n calls =
+    let answers = answers_from t (empty n) calls in
+    record { state = left_by_all t (empty n) calls; accepted = accepted_of calls answers; steps = step_sum calls answers; settled = settled_of answers }
 
 -- A caller that chooses each call in view of the earlier answers, the newest last.
 abbrev pub Chooser : Type 0

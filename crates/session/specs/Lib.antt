@@ -4,5 +4,6 @@ pub mod Memory
 pub mod States
 pub mod Held
 pub mod Least
+pub mod Causes
 pub mod Histories
 pub mod SessionLaw

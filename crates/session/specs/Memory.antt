@@ -1,4 +1,4 @@
--- The memory of a trail, and what a session has in it.
+-- When two trails are in the same memory.
 use Rattle.std.specs.Prelude.{◌≡◌}
 use Rattle.session.specs.declared.trail.Trail.{Trail}
 

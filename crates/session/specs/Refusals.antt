@@ -1,5 +1,4 @@
 -- Which number each refusal of a call on a session has; it is about no record of a file.
-use Rattle.std.specs.Prelude.{ℕ}
 use Rattle.graph.specs.declared.refusals.Refusal.{Refusal}
 use Rattle.graph.specs.Refusals.{of_file}
 use Rattle.session.specs.declared.calls.SessionFault.{SessionFault}

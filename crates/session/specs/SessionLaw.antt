@@ -1,12 +1,16 @@
 -- The law of sessions, as far as it is about one rulebook.
-use Rattle.std.specs.Prelude.{◌≡◌, ℕ, zero, suc, ◌+◌, ◌<◌, Bool, true, false, cond, T, List, [], ◌∷◌, ◌++◌, is_some, Option}
+use Rattle.std.specs.Prelude.{◌≡◌, ℕ, zero, suc, ◌+◌, ◌*◌, ◌<◌, ◌≤◌, cond, T, List, take, is_some, Ok, Some, Option, slice_get}
 use Rattle.rulebook.specs.declared.entries.Entry.{Entry}
 use Rattle.rulebook.specs.Tables.{Table}
+use Rattle.session.specs.declared.calls.Answer.{Answer}
+use Rattle.session.specs.declared.calls.Answer.TheVariants as answer
+use Rattle.session.specs.declared.calls.Outcome.TheVariants.{Settled, Pending}
 use Rattle.session.specs.declared.trail.TrailRecord.{TrailRecord}
 use Rattle.session.specs.Trails.{active}
-use Rattle.session.specs.States.{State, settled, fits}
+use Rattle.session.specs.States.{State, empty}
 use Rattle.session.specs.Least.{Least}
-use Rattle.session.specs.Histories.{Call, settle, History, history}
+use Rattle.session.specs.Causes.{Because}
+use Rattle.session.specs.Histories.{Call, answers_from, History, history}
 
 abbrev pub Active : History → ℕ → Type 0
 Active h i = T (active h.state.trail i)
@@ -28,10 +32,12 @@ sum_active w t (suc n) = sum_active w t n + cond (active t n) (w n) 0
 abbrev pub watch_entries : Table → State → ℕ
 watch_entries t s = sum_active (entries t) s.trail t.items
 
--- the steps reported so far are as many as the watch entries of the active items; with something pending they are fewer
-abbrev pub Counted : Table → History → Bool → Type 0
-Counted t h true = h.steps < watch_entries t h.state
-Counted t h false = h.steps ≡ watch_entries t h.state
+-- the step sum after a call, by what it answered: with nothing pending it is the number of watch entries of the active
+-- items, with something pending it is less; any other answer says nothing of it
+abbrev pub Counted : Table → History → Answer → Type 0
+Counted t h (answer.Settled (Ok (Settled n))) = h.steps ≡ watch_entries t h.state
+Counted t h (answer.Settled (Ok Pending)) = h.steps < watch_entries t h.state
+Counted t h _ = Unit {0}
 
 -- after some calls on a new session with n items:
 pub record SessionLaw (t : Table) (n : ℕ) (calls : List Call) : Type 0 where
@@ -39,6 +45,9 @@ pub record SessionLaw (t : Table) (n : ℕ) (calls : List Call) : Type 0 where
   pub sound : (i : ℕ) → Active (history t n calls) i → Least t (history t n calls).accepted i
   -- and while the session is settled, each item of that set is active;
   pub complete : T (history t n calls).settled → (i : ℕ) → Least t (history t n calls).accepted i → Active (history t n calls) i
-  -- after one more accepted settle, the step sum tells whether something is pending
-  pub counted : (b : ℕ) → T (fits t (history t n calls).state) →
-      Counted t (history t n (calls ++ settle b ∷ [])) (settled t b (history t n calls).state).pending
+  -- after each of the calls, its answer tells of the step sum so far;
+  pub counted : (k : ℕ) (a : Answer) → slice_get (answers_from t (empty n) calls) k ≡ Some a → Counted t (history t n (take (k + 1) calls)) a
+  -- the causes of each trail record are what made its item active;
+  pub reasons : (k : ℕ) (r : TrailRecord) → slice_get (history t n calls).state.trail k ≡ Some r → Because t (history t n calls).state.trail (history t n calls).accepted k r
+  -- and there are never more steps than the table has places for entries
+  pub bounded : (history t n calls).steps ≤ t.items * t.rows

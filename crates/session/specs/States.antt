@@ -96,6 +96,7 @@ next_among t (r ∷ rs) s = or_next (seek t r.item s.row) s (next_among t rs (wo
 abbrev pub next : Table → State → Next
 next t s = next_among t (drop s.place s.trail) s
 
+-- how settling ends: the state, how many entries were taken, and whether one is due
 pub record Run : Type 0 where
   pub state : State
   pub steps : ℕ
@@ -114,9 +115,10 @@ abbrev pub stepped : (State → Run) → Next → Run
 stepped more (rest s) = record { state = s; steps = 0; pending = false }
 stepped more (due s f) = one_more (more (taken s f))
 
-abbrev pub settled : Table → ℕ → State → Run
-settled t zero s = halted (next t s)
-settled t (suc b) s = stepped (settled t b) (next t s)
+-- settling within a budget
+abbrev pub settle_run : Table → ℕ → State → Run
+settle_run t zero s = halted (next t s)
+settle_run t (suc b) s = stepped (settle_run t b) (next t s)
 
 abbrev pub outcome_of : Run → Outcome
 outcome_of r = cond r.pending Pending (Settled r.steps)
@@ -126,10 +128,10 @@ abbrev pub fits : Table → State → Bool
 fits t s = t.items == s.items
 
 abbrev pub settle_answer : Table → ℕ → State → Result Outcome SessionFault
-settle_answer t b s = cond (fits t s) (Ok (outcome_of (settled t b s))) (Err fault.Item)
+settle_answer t b s = cond (fits t s) (Ok (outcome_of (settle_run t b s))) (Err fault.Item)
 
 abbrev pub settle_leaves : Table → ℕ → State → State
-settle_leaves t b s = cond (fits t s) (settled t b s).state s
+settle_leaves t b s = cond (fits t s) (settle_run t b s).state s
 
 -- Questions
 

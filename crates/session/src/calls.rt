@@ -11,7 +11,7 @@ pub enum SessionFault {
     Inactive,
 }
 
-// How far settle came. An `Option<u32>` is no plainer: its `None` would not say that something is pending.
+// How far settle came.
 #[derive(Clone, Copy, PartialEq, Eq, Debug)]
 pub enum Outcome {
     // nothing is pending, after so many steps
@@ -20,16 +20,14 @@ pub enum Outcome {
     Pending,
 }
 
-// The causes of an active item, as in its trail record, which has them beside its item: the laws of a trail ask for one
-// cause at a time, and with a `Reason` in the record each would name it in between.
+// The causes of an active item, as its trail record has them.
 #[derive(Clone, Copy, PartialEq, Eq, Debug)]
 pub struct Reason {
     pub first: Option<u32>,
     pub second: Option<u32>,
 }
 
-// A call on a session: to request items, to settle within a budget, and two questions about an item. Calls are one enum
-// and their answers another, since the laws of sessions speak of whole lists of them.
+// A call on a session: to request items, to settle within a budget, and two questions about an item.
 #[derive(Clone, Copy)]
 pub enum Call<'a> {
     Request(&'a [u32]),

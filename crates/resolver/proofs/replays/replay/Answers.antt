@@ -3,7 +3,7 @@ use Rattle.std.proofs.lemmas.List.{drop-set-lt}
 use Rattle.session.specs.Held.{state}
 use Rattle.session.specs.Histories.{call_view}
 use Rattle.session.proofs.Keeping.{kept-on}
-use Rattle.resolver.proofs.Replaying.{goes-on, all-state, all-answers, more-state, more-answers}
+use Rattle.resolver.proofs.Replaying.{parts-hold, goes-on, all-state, all-answers, more-state, more-answers}
 use Rattle.resolver.proofs.replays.replay.Goals as goal
 
 pub loop-k-preserved : goal.loop-k-preserved
@@ -29,3 +29,9 @@ returns-clause-law g c = λ n before e _.
     goes-on t (g.met.B.Rulebook.lawful c.args.book.now) n before (map call_view cs) _ _ _ e
     (all-state t cs l.k over (state l.session) _ l.invariant.0)
     (all-answers t cs l.k over (state l.session) l.answers _ most l.invariant.1)
+
+pub returns-then-answers-calls-clause-parts : goal.returns-then-answers-calls-clause-parts
+returns-then-answers-calls-clause-parts g c = parts-hold
+
+pub returns-clause-parts : goal.returns-clause-parts
+returns-clause-parts g c = parts-hold

@@ -1,0 +1,144 @@
+-- Every call keeps that each trail record has the causes that it should have.
+use Rattle.std.proofs.Common.{◌≡◌, ℕ, zero, suc, ◌+◌, ◌<◌, ◌≤◌, Bool, true, false, cond, not, ◌&&◌, eqb, List, [], ◌∷◌, ◌++◌, length, get_or, drop, is_some, Some, None, Option, sym, refl, ap, ◌∙◌, subst, inl, inr, ⊎_elim, arith, append-nil, eqb-true}
+use Rattle.std.specs.List.{fold}
+use Rattle.std.proofs.lemmas.Bool.{cases_lt}
+use Rattle.std.proofs.lemmas.List.{length-append, get_or_append_left}
+use Rattle.std.proofs.lemmas.Option.{none-some, same_Some}
+use Rattle.std.proofs.Math.Seq.{get_or-append_seam}
+use Rattle.rulebook.specs.declared.entries.Found.{Found}
+use Rattle.rulebook.specs.Tables.{Table, seek}
+use Rattle.session.specs.declared.trail.TrailRecord.{TrailRecord}
+use Rattle.session.specs.Causes.{item_at, Because, asked_for, by_one, by_two}
+use Rattle.session.specs.Histories.{Call, request, settle, active as active_call, reason, History, history}
+use Rattle.session.specs.Least.{OneOf}
+use Rattle.session.specs.States.{State, with_trail, requested_one, requested, all_below, taken, settle_run, fits}
+use Rattle.session.specs.Trails.{active, later, find, granted, cause_of, blank}
+use Rattle.session.proofs.Derivations.{one-left, one-right}
+use Rattle.session.proofs.Finding.{found-active, found-within}
+use Rattle.session.proofs.Kept.{and_not_true}
+use Rattle.session.proofs.Pasts.{begun, after_request, after_settle, called, past-history}
+use Rattle.session.proofs.Seeks.{seek-some}
+use Rattle.session.proofs.SettleKeeps.{settled-keeps}
+use Rattle.session.proofs.TrailFacts.{At, at-inside}
+
+-- the record at a trail number that was found is of that item
+found-item : (t : List TrailRecord) (i k : ℕ) → find t i ≡ Some k → item_at t k ≡ i
+found-item [] i k e = absurd (none-some k e)
+found-item (r ∷ t) i k e = go (eqb r.item i) refl (find t i) (found-item t i) e
+  where
+    go : (b : Bool) → eqb r.item i ≡ b → (o : Option ℕ) → ((j : ℕ) → o ≡ Some j → item_at t j ≡ i) → cond b (Some 0) (later o) ≡ Some k → item_at (r ∷ t) k ≡ i
+    go true q o h z = let y : 0 ≡ k = same_Some 0 k z in subst (λ j. item_at (r ∷ t) j ≡ i) y (eqb-true r.item i q)
+    go false q None h z = absurd (none-some k z)
+    go false q (Some j) h z = let y : suc j ≡ k = let x : j + 1 ≡ k = same_Some (j + 1) k z in omega arith in subst (λ m. item_at (r ∷ t) m ≡ i) y (h j refl)
+
+-- the item at the worked place
+at-item : (p : ℕ) (t : List TrailRecord) (x : TrailRecord) (xs : List TrailRecord) → drop p t ≡ x ∷ xs → item_at t p ≡ x.item
+at-item zero [] x xs d = cc
+at-item zero (y ∷ t) x xs d = cc
+at-item (suc p) [] x xs d = cc
+at-item (suc p) (y ∷ t) x xs d = at-item p t x xs d
+
+module _ (table : Table) where
+  -- more records and more requests change nothing for a record that stands
+  because-more : (trail more : List TrailRecord) (asked wide : List ℕ) (k : ℕ) (r : TrailRecord) → k ≤ length trail → ((i : ℕ) → OneOf asked i → OneOf wide i) →
+      Because table trail asked k r → Because table (trail ++ more) wide k r
+  because-more trail more asked wide k _ l h (asked_for {i = i} o) = asked_for (h i o)
+  because-more trail more asked wide k _ l h (by_one {i = i} {c = c} {row = row} older e) =
+      by_one older (ap (λ (r : TrailRecord). table.entry r.item row) (get_or_append_left trail more blank c (omega arith)) ∙ e)
+  because-more trail more asked wide k _ l h (by_two {i = i} {c = c} {d = d} {row = row} older also e) =
+      by_two older also (ap (λ (r : TrailRecord). table.entry r.item row) (get_or_append_left trail more blank c (omega arith)) ∙ e
+      ∙ ap (λ (r : TrailRecord). Some (record { partner = Some r.item; conclusion = i })) (sym (get_or_append_left trail more blank d (omega arith))))
+
+  -- each record of a trail stands there for a reason
+  abbrev pub Reasons : List ℕ → List TrailRecord → Type 0
+  Reasons asked trail = (k : ℕ) → k < length trail → Because table trail asked k (get_or trail k blank)
+
+  more-reasons : (asked wide : List ℕ) (trail : List TrailRecord) → ((i : ℕ) → OneOf asked i → OneOf wide i) → Reasons asked trail → Reasons wide trail
+  more-reasons asked wide trail h reasons k l =
+      let m : k ≤ length trail = omega arith in
+      subst (λ t. Because table t wide k (get_or trail k blank)) (append-nil trail)
+      (because-more trail [] asked wide k (get_or trail k blank) m h (reasons k l))
+
+  -- one record more
+  push-reasons : (asked : List ℕ) (trail : List TrailRecord) (x : TrailRecord) → Because table trail asked (length trail) x → Reasons asked trail → Reasons asked (trail ++ x ∷ [])
+  push-reasons asked trail x because reasons k l = ⊎_elim
+      (λ (w : k < length trail).
+      let m : k ≤ length trail = omega arith in
+      subst (Because table (trail ++ x ∷ []) asked k) (sym (get_or_append_left trail (x ∷ []) blank k w))
+      (because-more trail (x ∷ []) asked asked k (get_or trail k blank) m (λ i o. o) (reasons k w)))
+      (λ (w : length trail ≤ k).
+      let z : length trail ≡ k = omega (arith, l, length-append trail (x ∷ [])) in
+      let m : length trail ≤ length trail = omega arith in
+      subst (λ j. Because table (trail ++ x ∷ []) asked j (get_or (trail ++ x ∷ []) j blank)) z
+      (subst (Because table (trail ++ x ∷ []) asked (length trail)) (sym (get_or-append_seam trail x [] blank))
+      (because-more trail (x ∷ []) asked asked (length trail) x m (λ i o. o) because)))
+      (cases_lt k (length trail))
+
+  -- an entry of the worked item is taken
+  taken-reasons : (asked : List ℕ) (s : State) (x : TrailRecord) (xs : List TrailRecord) (f : Found) → At s x xs → seek table x.item s.row ≡ Some f →
+      Reasons asked s.trail → Reasons asked (taken s f).trail
+  taken-reasons asked s x xs f d e reasons = go (granted s.trail f.entry.partner && not (active s.trail f.entry.conclusion)) refl
+    where
+      inside : s.place < length s.trail
+      inside = at-inside s x xs d
+
+      worked : item_at s.trail s.place ≡ x.item
+      worked = at-item s.place s.trail x xs d
+
+      why : (b : Option ℕ) (c : ℕ) → table.entry x.item f.row ≡ Some (record { partner = b; conclusion = c }) → granted s.trail b ≡ true →
+          Because table s.trail asked (length s.trail) (record { item = c; first = Some s.place; second = cause_of s.trail b })
+      why None c q g = by_one inside (ap (λ j. table.entry j f.row) worked ∙ q)
+      why (Some b) c q g = found (find s.trail b) refl
+        where
+          found : (o : Option ℕ) → find s.trail b ≡ o → Because table s.trail asked (length s.trail) (record { item = c; first = Some s.place; second = o })
+          found None z = absurd (let y : false ≡ true = sym (ap is_some z) ∙ found-active s.trail b ∙ g in cc)
+          found (Some k) z =
+              by_two inside (found-within s.trail b k z)
+              (ap (λ j. table.entry j f.row) worked ∙ q ∙ ap (λ j. Some (record { partner = Some j; conclusion = c })) (sym (found-item s.trail b k z)))
+
+      new : TrailRecord
+      new = record { item = f.entry.conclusion; first = Some s.place; second = cause_of s.trail f.entry.partner }
+
+      go : (b : Bool) → (granted s.trail f.entry.partner && not (active s.trail f.entry.conclusion)) ≡ b → Reasons asked (cond b (with_trail s (s.trail ++ new ∷ [])) s).trail
+      go true h =
+          push-reasons asked s.trail new
+          (why f.entry.partner f.entry.conclusion (seek-some table x.item s.row f e).here
+          (and_not_true (granted s.trail f.entry.partner) (active s.trail f.entry.conclusion) h).0)
+          reasons
+      go false h = reasons
+
+  -- items that were asked for join
+  requested-reasons : (asked is : List ℕ) (s : State) → ((i : ℕ) → OneOf is i → OneOf asked i) → Reasons asked s.trail → Reasons asked (requested is s).trail
+  requested-reasons asked [] s h reasons = reasons
+  requested-reasons asked (i ∷ is) s h reasons = requested-reasons asked is (requested_one s i) (λ j o. h j (inr o)) (go (active s.trail i))
+    where
+      go : (b : Bool) → Reasons asked (cond b s (with_trail s (s.trail ++ record { item = i; first = None; second = None } ∷ []))).trail
+      go true = reasons
+      go false = push-reasons asked s.trail (record { item = i; first = None; second = None }) (asked_for (h i (inl refl))) reasons
+
+  called-reasons : (h : History) (c : Call) → Reasons h.accepted h.state.trail → Reasons (called table h c).accepted (called table h c).state.trail
+  called-reasons h (active_call i) reasons = reasons
+  called-reasons h (reason i) reasons = reasons
+  called-reasons h (request is) reasons = go (all_below h.state.items is)
+    where
+      go : (b : Bool) → let g = cond b (after_request h is) h in Reasons g.accepted g.state.trail
+      go true =
+          requested-reasons (h.accepted ++ is) is h.state (one-right h.accepted is)
+          (more-reasons h.accepted (h.accepted ++ is) h.state.trail (one-left h.accepted is) reasons)
+      go false = reasons
+  called-reasons h (settle b) reasons = go (fits table h.state)
+    where
+      ends : Reasons h.accepted (settle_run table b h.state).state.trail
+      ends = (settled-keeps table (λ k s. Reasons h.accepted s.trail) (λ k s x xs d e r. r) (λ k s x xs f d e r. taken-reasons h.accepted s x xs f d e r) b 0 h.state reasons).0
+
+      go : (f : Bool) → let g = cond f (after_settle h b (settle_run table b h.state)) h in Reasons g.accepted g.state.trail
+      go true = ends
+      go false = reasons
+
+  calls-reasons : (calls : List Call) (h : History) → Reasons h.accepted h.state.trail → let g = fold (called table) h calls in Reasons g.accepted g.state.trail
+  calls-reasons [] h reasons = reasons
+  calls-reasons (c ∷ calls) h reasons = calls-reasons calls (called table h c) (called-reasons h c reasons)
+
+  -- after any calls
+  pub history-reasons : (n : ℕ) (calls : List Call) → Reasons (history table n calls).accepted (history table n calls).state.trail
+  history-reasons n calls = subst (λ (h : History). Reasons h.accepted h.state.trail) (past-history table n calls) (calls-reasons calls (begun n) (λ k l. absurd (omega (arith, l))))
