@@ -22,8 +22,8 @@ abbrev pub most_local_items : ℕ
 most_local_items = 36864
 
 -- the most rule rows
-abbrev pub most_rows : ℕ
-most_rows = 262144
+abbrev pub most_rule_rows : ℕ
+most_rule_rows = 262144
 
 -- how many words stand before the rows, and how many a row has
 abbrev pub head_words : ℕ

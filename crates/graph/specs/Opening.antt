@@ -6,7 +6,7 @@ use Rattle.graph.specs.declared.faults.FileFault.{FileFault}
 use Rattle.graph.specs.declared.faults.FileFault.TheVariants.{Record, Rows, Memory}
 use Rattle.graph.specs.declared.rows.Opened.{Opened}
 use Rattle.graph.specs.Reading.{first_reading}
-use Rattle.graph.specs.Limits.{most_rows, head_words, row_width}
+use Rattle.graph.specs.Limits.{most_rule_rows, head_words, row_width}
 use Rattle.graph.specs.Law.{dependency_count, feature_count}
 use Rattle.graph.specs.Rules.{rows, graph_words}
 use Rattle.graph.specs.Second.{second_reading}
@@ -29,7 +29,7 @@ on_graph (Err e) k = Err e
 -- the rows of a graph that was read as n bytes: the limit of rows, then the room, then what the words hold
 abbrev pub laid_for : Graph → ℕ → List ℕ → Result (Opened × List ℕ) FileFault
 laid_for g n words =
-    cond (nat_lt most_rows (length (rows g))) (Err Rows)
+    cond (nat_lt most_rule_rows (length (rows g))) (Err Rows)
     (cond (nat_lt (length words) (head_words + row_width * length (rows g))) (Err Memory)
     (Ok (opened_as g n, over (graph_words g) words)))
 

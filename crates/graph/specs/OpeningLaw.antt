@@ -14,7 +14,7 @@ use Rattle.graph.specs.Places.{unit, dep, feat, dependencies_of, features_of, no
 use Rattle.graph.specs.Rules.{Rule, lane_of, rules, rows, graph_words}
 use Rattle.graph.specs.Opening.{over, opened_as}
 use Rattle.graph.specs.Second.{Placed, placed}
-use Rattle.graph.specs.Limits.{most_bytes, most_rows, head_words, row_width}
+use Rattle.graph.specs.Limits.{most_bytes, most_rule_rows, head_words, row_width}
 
 -- x is one of these: by recursion, and not by a place as the library's `Contains`, so that each rule's case takes it apart
 abbrev pub In : {A : Type 0} → A → List A → Type 0
@@ -59,7 +59,7 @@ pub record Resolved (g : Graph) : Type 0 where
 pub record Opens (file words : List ℕ) (g : Graph) : Type 0 where
   pub says : Says file g
   pub resolved : Resolved g
-  pub few : length (rows g) ≤ most_rows
+  pub few : length (rows g) ≤ most_rule_rows
   pub room : head_words + row_width * length (rows g) ≤ length words
 
 -- what this dependency or feature of package p refers to is there
@@ -105,8 +105,8 @@ RecordLacks file number start Many = SaysNone file × Behind file number start
 abbrev pub Lacks : List ℕ → List ℕ → FileFault → Type 0
 Lacks file words Size = most_bytes < length file
 Lacks file words (Record x) = RecordLacks file x.number x.start x.fault
-Lacks file words Rows = (g : Graph) × Says file g × Resolved g × (most_rows < length (rows g))
-Lacks file words Memory = (g : Graph) × Says file g × Resolved g × (length (rows g) ≤ most_rows) × (length words < head_words + row_width * length (rows g))
+Lacks file words Rows = (g : Graph) × Says file g × Resolved g × (most_rule_rows < length (rows g))
+Lacks file words Memory = (g : Graph) × Says file g × Resolved g × (length (rows g) ≤ most_rule_rows) × (length words < head_words + row_width * length (rows g))
 
 -- Opening accepts exactly such a file, as that graph, of which there is one; where it is refused, just what the refusal
 -- tells is lacking.

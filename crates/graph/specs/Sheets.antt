@@ -4,7 +4,7 @@ use Rattle.std.specs.Borrow.{MutBor}
 use Rattle.graph.specs.declared.rows.Row.{Row}
 use Rattle.graph.specs.declared.sheets.Sheet.{Sheet}
 use Rattle.graph.specs.Rules.{row_words}
-use Rattle.graph.specs.Limits.{most_rows, head_words, row_width}
+use Rattle.graph.specs.Limits.{most_rule_rows, head_words, row_width}
 
 -- five words in the place of as many
 abbrev pub put : List ℕ → ℕ → List ℕ → List ℕ
@@ -16,7 +16,7 @@ laid_in ws n r = cond (nat_le ((head_words + row_width * n) + row_width) (length
 
 -- the count stops one past the limit
 abbrev pub more : ℕ → ℕ
-more n = min (n + 1) (most_rows + 1)
+more n = min (n + 1) (most_rule_rows + 1)
 
 -- the same reference, to other words
 abbrev pub holding : MutBor (List ℕ) → List ℕ → MutBor (List ℕ)

@@ -38,8 +38,8 @@ pub(crate) struct Stand {
     pub dependencies: u32,
 }
 
-// What a graph file has, all of it or so far: bytes that are read, packages, dependencies and features. What callers see
-// is `Opened`, with the rows, which are counted last.
+// What a graph file has, all of it or so far: bytes that are read, packages, dependencies and features. What callers
+// see is `Opened`, with the rows, which are counted last.
 #[derive(Clone, Copy)]
 pub(crate) struct Counts {
     pub read: usize,

@@ -5,7 +5,7 @@ ghost use Rattle.records.specs.Graphs.{Graph};
 ghost use Rattle.graph.specs.declared.faults.FileFault.{FileFault};
 ghost use Rattle.graph.specs.declared.rows.Opened.{Opened};
 ghost use Rattle.graph.specs.Law.{Says};
-ghost use Rattle.graph.specs.Limits.{most_rows, head_words, row_width};
+ghost use Rattle.graph.specs.Limits.{most_rule_rows, head_words, row_width};
 ghost use Rattle.graph.specs.Laying.{its};
 ghost use Rattle.graph.specs.Opening.{over, opened_as, laid_for, open_graph, leaving, with_words};
 ghost use Rattle.graph.specs.OpeningLaw.{OpeningLaw, RulesLaw};
@@ -21,8 +21,8 @@ impl<'a> Filled<'a> {
     // The rows of the graph are laid into the words behind the first four, as far as there is room. The answer is how
     // many rows there are, up to one past the limit. With no words it counts, by the same walk, so that the two agree.
     fn lay_all(&self, words: &mut [u32]) -> u32
-        ensures count { result ≡ min (length (rows (its self.now))) (most_rows + 1) }
-        ensures words { length (rows (its self.now)) ≤ most_rows → head_words + row_width * length (rows (its self.now)) ≤ length words.old → words.new ≡ take head_words words.old ++ (flat_map row_words (rows (its self.now)) ++ drop (head_words + row_width * length (rows (its self.now))) words.old) }
+        ensures count { result ≡ min (length (rows (its self.now))) (most_rule_rows + 1) }
+        ensures words { length (rows (its self.now)) ≤ most_rule_rows → head_words + row_width * length (rows (its self.now)) ≤ length words.old → words.new ≡ take head_words words.old ++ (flat_map row_words (rows (its self.now)) ++ drop (head_words + row_width * length (rows (its self.now))) words.old) }
     {
         let mut sheet = Sheet { words, count: 0 };
         self.lay_rows(&mut sheet);
@@ -31,7 +31,7 @@ impl<'a> Filled<'a> {
 
     // The words of the graph: how many packages, dependencies, features and rows there are, then the rows.
     fn write(&self, words: &mut [u32], count: u32)
-        requires all { (count ≡ length (rows (its self.now))) × (count ≤ most_rows) }
+        requires all { (count ≡ length (rows (its self.now))) × (count ≤ most_rule_rows) }
         requires room { head_words + row_width * count ≤ length words.old }
         ensures { words.new ≡ over (graph_words (its self.now)) words.old }
     {

@@ -88,8 +88,7 @@ impl<'a> Filled<'a> {
         part_at(directory.index.file, start as usize)
     }
 
-    // The local number of the feature of a package and name. Only here a `Key` is made of the two: names of dependencies
-    // are asked for by the same two, and are no keys.
+    // The local number of the feature of a package and name.
     pub(crate) fn feature_item(&self, owner: u32, name: &[u8]) -> Option<u32>
         ensures { result ≡ option_map (λ j. number (its self.now) (feat owner j)) (place_of (features_of (its self.now) owner) name.now) }
     {

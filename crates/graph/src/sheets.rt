@@ -6,9 +6,9 @@ ghost use Rattle.graph.specs.Sheets.{put, lay};
 
 use crate::rows::{HEAD, MAX_ROWS, Row, WIDTH};
 
-// Words that rule rows are laid into, and how many rows there are so far, up to one past the limit. A sheet is handed to
-// each method of `Filled` that lays rows: in a struct with the directory, which is only read, each would take the two
-// apart again.
+// Words that rule rows are laid into, and how many rows there are so far, up to one past the limit. A sheet is handed
+// to each method of `Filled` that lays rows: in a struct with the directory, which is only read, each would take the
+// two apart again.
 #[derive(Drop)]
 pub(crate) struct Sheet<'w> {
     pub words: &'w mut [u32],

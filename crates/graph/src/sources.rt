@@ -22,7 +22,7 @@ impl<'a> Filled<'a> {
         }
     }
 
-    // The rows of some dependencies or features of a package. A cast of `k` is right, as there are at most 36,864 items.
+    // The rows of some dependencies or features of a package. There are few enough items that the cast of `k` is right.
     fn rows_of_parts(&self, sheet: &mut Sheet, p: u32, table: Starts)
         ensures { (number : ℕ → ℕ) (parts : List Part) → TableOf self.now table.entry number parts → sheet.new ≡ lays sheet.old (each (λ k. part_rows (its self.now) p (number k)) 0 parts) }
     {

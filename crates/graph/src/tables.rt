@@ -36,11 +36,11 @@ pub(crate) struct Starts<'a> {
     ghost few: { first + length starts.now ≤ most_local_items },
 }
 
-// Where everything stands in a graph file that the first reading has accepted. `packages`, `dependencies` and `features`
-// are in file order, the last two as starts of records; `parts` has both of these together, with their owners, since one
-// look asks by package and the other goes in file order. `index` has the features by package and name, and `named` the
-// dependencies, the last one first, since a bucket's list then has them in file order. The memory is fixed, since the
-// library allocates nothing; how far each table is filled, `counts` says.
+// Where everything stands in a graph file that the first reading has accepted. `packages`, `dependencies` and
+// `features` are in file order, the last two as starts of records; `parts` has both of these together, with their
+// owners, since one look asks by package and the other goes in file order. `index` has the features by package and
+// name, and `named` the dependencies, the last one first, since a bucket's list then has them in file order. The memory
+// is fixed, since the library allocates nothing; how far each table is filled, `counts` says.
 #[derive(Drop)]
 pub(crate) struct Directory<'a> {
     pub index: Index<'a>,

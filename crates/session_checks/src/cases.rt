@@ -31,7 +31,18 @@ pub struct Prospect {
     pub both: Expected,
 }
 
-// A few items of a graph: any, and often its first unit and its first feature, both on the target.
+// Adds a few items, any of those below the count.
+fn add_any(dice: &mut Dice, count: usize, request: &mut Vec<u32>) -> Result<(), AllocError> {
+    for _ in 0..dice.below(4) {
+        let any = dice.below(count.max(1));
+        if any < count {
+            request.extend(u32::try_from(any).ok())?;
+        }
+    }
+    Ok(())
+}
+
+// A few items of a graph: often its first unit and its first feature, both on the target, and any.
 fn draw_request(
     heap: Global,
     dice: &mut Dice,
@@ -48,12 +59,7 @@ fn draw_request(
             request.extend(u32::try_from(likely).ok())?;
         }
     }
-    for _ in 0..dice.below(4) {
-        let any = dice.below(count.max(1));
-        if any < count {
-            request.extend(u32::try_from(any).ok())?;
-        }
-    }
+    add_any(dice, count, &mut request)?;
     Ok(request)
 }
 

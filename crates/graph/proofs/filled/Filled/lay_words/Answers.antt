@@ -2,7 +2,7 @@ use Rattle.std.proofs.Common.{◌≡◌, ◌+◌, ◌*◌, length, Ok, sym, ap, 
 use Rattle.std.proofs.lemmas.Bool.{cond-false, le-ltb}
 use Rattle.graph.specs.Laying.{its}
 use Rattle.graph.specs.Opening.{over, opened_as, laid_for, leaving}
-use Rattle.graph.specs.Limits.{most_rows}
+use Rattle.graph.specs.Limits.{most_rule_rows}
 use Rattle.graph.specs.Rules.{rows, graph_words}
 use Rattle.graph.proofs.FilledTells.{packages-told, dependencies-told, features-told}
 use Rattle.graph.proofs.filled.Filled.lay_words.Goals as goal
@@ -15,7 +15,7 @@ returns c =
     let words = c.args.words.now in
     let r : c.lay_all-rows.result ≡ length (rows g) = omega (arith, c.lay_all-rows.ensures.count, c.if-rows-gt-MAX_ROWS.false) in
     let all : laid_for g n words ≡ Ok (opened_as g n, over (graph_words g) words) =
-    cond-false _ _ _ (le-ltb most_rows (length (rows g)) (omega (arith, r, c.if-rows-gt-MAX_ROWS.false)))
+    cond-false _ _ _ (le-ltb most_rule_rows (length (rows g)) (omega (arith, r, c.if-rows-gt-MAX_ROWS.false)))
     ∙ cond-false _ _ _ (le-ltb (length words) (4 + 5 * length (rows g)) (omega (arith, r, c.if-words-rows.false))) in
     (λ i. (Ok (record { read = n; packages = packages-told x i; dependencies = dependencies-told x i; features = features-told x i; rows = r i }), c.write.ensures i))
     ∙ sym (ap (leaving words) all)
