@@ -3,7 +3,7 @@
 #![tactic(auto)]
 
 ghost use Rattle.std.specs.Prelude.{◌≡◌, ◌<◌, ◌==◌, IfSome, Contains};
-ghost use Rattle.dice.specs.Numbers.{next, taken};
+ghost use Rattle.dice.specs.Numbers.{next, taken, picked, after_pick};
 
 #[derive(Drop)]
 pub struct Dice {
@@ -42,7 +42,9 @@ impl Dice {
 
     // One of the list, if it has any.
     pub fn pick(&mut self, list: &[usize]) -> Option<usize>
-        ensures { IfSome result (Contains list.now) }
+        ensures state { self.new.state ≡ after_pick self.old.state list.now }
+        ensures value { result ≡ picked self.new.state list.now }
+        ensures among { IfSome result (Contains list.now) }
     {
         if list.is_empty() {
             return None;

@@ -8,3 +8,4 @@ pub mod Codes
 pub mod CodedFields
 pub mod Listings
 pub mod LaneNumbers
+pub mod Counts

@@ -1,5 +1,5 @@
 -- The bodies of records, field by field.
-use Rattle.std.specs.Prelude.{ℕ, zero, suc, ◌≤◌, Bool, List, [], ◌∷◌, map, length, take, drop, Some, None, Ok, Err, Option, Result}
+use Rattle.std.specs.Prelude.{◌≡◌, ℕ, zero, suc, ◌+◌, ◌≤◌, Bool, List, [], ◌∷◌, map, length, take, drop, Some, None, Ok, Err, Option, Result}
 use Rattle.std.specs.Borrow.{Bor}
 use Rattle.text.specs.declared.faults.StringFault.{StringFault}
 use Rattle.text.specs.Forms.{Form, plain, Piece, unplaced}
@@ -59,6 +59,10 @@ texts s = listed s.count s.bytes.now
 abbrev pub forms : Strings → List (Form (List ℕ))
 forms s = map form_in (texts s)
 
+-- its count is that of its strings
+abbrev pub Full : Strings → Type 0
+Full s = length (texts s) ≡ s.count
+
 -- a package: proc mark, name
 pub record Head : Type 0 where
   pub proc : Bool
@@ -73,6 +77,10 @@ package_field =
     and_then name_text (λ name.
     and_then closed_field (λ _.
     give (record { proc = proc; name = name }))))
+
+-- the place of its name, where the body begins at `at`: behind the proc mark and the length byte of the name
+abbrev pub package_name_at : ℕ → ℕ
+package_name_at at = at + 2
 
 abbrev pub feature_view : FeatureBody → Feature
 feature_view f = record { name = f.name.bytes.now; values = forms f.values }
@@ -98,6 +106,10 @@ dependency_field =
     and_then names_field (λ asks.
     and_then closed_field (λ _.
     give (record { end = end; edge = edge; optional = optional; defaults = defaults; name = name; asks = asks }))))))))
+
+-- the place of its name: behind the end, the edge kind, both switches and the length byte of the name
+abbrev pub dependency_name_at : ℕ → ℕ
+dependency_name_at at = at + 6
 
 -- one more in front, where there is one
 abbrev pub ahead : {A : Type 0} → Option A → List A → List A

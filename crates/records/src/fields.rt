@@ -1,10 +1,10 @@
 // The fields of a record, in the order in which they are read.
-ghost use Rattle.std.specs.Prelude.{◌≡◌, Result};
+ghost use Rattle.std.specs.Prelude.{◌≡◌, Result, IfOk};
 ghost use Rattle.text.specs.Forms.{Form, Piece};
 ghost use Rattle.text.specs.Views.{mapped, piece, form};
 ghost use Rattle.records.specs.declared.faults.InField.{InField};
 ghost use Rattle.records.specs.Fields.{view, outcome, outcome_by, bytes_field, byte_field, word_field, string_field, text_field, name_of, name_field, form_of, switch_field, edge_field, closed_field, void, header_field};
-ghost use Rattle.records.specs.Bodies.{texts, forms, many, list_field, names_field, forms_field, values_field, package_view, package_field, dependency_view, dependency_field};
+ghost use Rattle.records.specs.Bodies.{texts, forms, Full, many, list_field, names_field, forms_field, values_field, package_view, package_field, package_name_at, dependency_view, dependency_field, dependency_name_at};
 
 use crate::bodies::{Dependency, Edge, Package};
 use crate::faults::{InField, RecordFault};
@@ -146,7 +146,8 @@ impl<'a> Reader<'a> {
 
     // The record ends here.
     pub fn closed(&mut self) -> Result<(), RecordFault>
-        ensures { outcome result (view self.new) ≡ closed_field (view self.old) }
+        ensures value { outcome result (view self.new) ≡ closed_field (view self.old) }
+        ensures still { view self.new ≡ view self.old }
     {
         if self.rest.is_empty() {
             Ok(())
@@ -167,7 +168,8 @@ impl<'a> Reader<'a> {
 
     // A count byte, and that many strings that are each read as a `T`.
     fn list<T: Text<'a>>(&mut self) -> Result<Strings<'a>, RecordFault>
-        ensures { outcome_by texts result (view self.new) ≡ list_field (text_field T.reading) (view self.old) }
+        ensures value { outcome_by texts result (view self.new) ≡ list_field (text_field T.reading) (view self.old) }
+        ensures full { IfOk result Full }
     {
         let count = self.byte()?;
         let bytes = self.rest;
@@ -177,21 +179,24 @@ impl<'a> Reader<'a> {
 
     // A count byte, and that many names.
     fn names(&mut self) -> Result<Strings<'a>, RecordFault>
-        ensures { outcome_by texts result (view self.new) ≡ names_field (view self.old) }
+        ensures value { outcome_by texts result (view self.new) ≡ names_field (view self.old) }
+        ensures full { IfOk result Full }
     {
         self.list::<Part>()
     }
 
     // A count byte, and that many feature strings.
     fn forms(&mut self) -> Result<Strings<'a>, RecordFault>
-        ensures { outcome_by forms result (view self.new) ≡ forms_field (view self.old) }
+        ensures value { outcome_by forms result (view self.new) ≡ forms_field (view self.old) }
+        ensures full { IfOk result Full }
     {
         self.list::<FeatureString>()
     }
 
     // The values of a feature, which end its record.
     pub fn values(&mut self) -> Result<Strings<'a>, RecordFault>
-        ensures { outcome_by forms result (view self.new) ≡ values_field (view self.old) }
+        ensures value { outcome_by forms result (view self.new) ≡ values_field (view self.old) }
+        ensures full { IfOk result Full }
     {
         let values = self.forms()?;
         self.closed()?;
@@ -200,7 +205,8 @@ impl<'a> Reader<'a> {
 
     // The body of a package record.
     pub fn package(&mut self) -> Result<Package<'a>, RecordFault>
-        ensures { outcome_by package_view result (view self.new) ≡ package_field (view self.old) }
+        ensures value { outcome_by package_view result (view self.new) ≡ package_field (view self.old) }
+        ensures place { IfOk result (λ p. p.name.at ≡ package_name_at self.old.at) }
     {
         let proc_mark = self.switch()?;
         let name = self.name()?;
@@ -210,7 +216,9 @@ impl<'a> Reader<'a> {
 
     // The body of a dependency record.
     pub fn dependency(&mut self) -> Result<Dependency<'a>, RecordFault>
-        ensures { outcome_by dependency_view result (view self.new) ≡ dependency_field (view self.old) }
+        ensures value { outcome_by dependency_view result (view self.new) ≡ dependency_field (view self.old) }
+        ensures place { IfOk result (λ d. d.name.at ≡ dependency_name_at self.old.at) }
+        ensures full { IfOk result (λ d. Full d.asks) }
     {
         let end = self.word()?;
         let edge = self.edge()?;

@@ -2,5 +2,5 @@ use Rattle.records.specs.Fields.{view}
 use Rattle.records.proofs.Lists.{forms-told}
 use Rattle.records.proofs.reader.Reader.forms.Goals as goal
 
-pub returns : goal.returns
-returns c = forms-told c.list.result (view c.args.self.now) (view c.list.new.self) c.list.ensures
+pub returns-clause-value : goal.returns-clause-value
+returns-clause-value c = forms-told c.list.result (view c.args.self.now) (view c.list.new.self) c.list.ensures.value
