@@ -1,6 +1,6 @@
 // Settling: watch entries are taken in trail order, from the worked place on.
 ghost use Rattle.std.specs.Prelude.{◌≡◌, ◌+◌, ◌<◌};
-ghost use Rattle.rulebook.specs.Tables.{Among};
+ghost use Rattle.rulebook.specs.Tables.{Among, most_rows};
 ghost use Rattle.session.specs.Held.{state, Keeps};
 ghost use Rattle.session.specs.States.{worked_item, worked, concluded, taken, settle_answer, settle_leaves};
 
@@ -53,7 +53,7 @@ impl Session<'_> {
     fn take(&mut self, found: Found)
         requires place { self.old.place < self.old.trail.len }
         requires below { (found.entry.conclusion < self.old.items) × Among (λ b. b < self.old.items) found.entry.partner }
-        requires row { found.row < 4194304 }
+        requires row { found.row < most_rows }
         ensures state { state self.new ≡ taken (state self.old) found }
         ensures keeps { Keeps self.new self.old }
     {
