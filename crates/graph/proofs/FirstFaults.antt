@@ -11,7 +11,7 @@ use Rattle.records.specs.declared.faults.RecordFault.TheVariants.{Cut, Stray, Ra
 use Rattle.records.specs.declared.frames.Kind.{Kind}
 use Rattle.records.specs.declared.frames.Kind.TheVariants as kind
 use Rattle.records.specs.Frames.{Frame, frame_of, of_length, inside}
-use Rattle.records.specs.Fields.{View, Field, on_ok, and_then, byte_of, byte_field, word_of, word_field, string_of, string_field, in_record, name_of, name_field, form_of, form_field, switch_at, switch_field, edge_at, edge_field, closed_of, closed_field, version_at, header_field}
+use Rattle.records.specs.Fields.{View, Field, on_ok, and_then, byte_of, byte_field, word_of, word_field, string_of, string_field, or_text, name_of, name_field, form_of, form_field, switch_at, switch_field, edge_at, edge_field, closed_of, closed_field, version_at, header_field}
 use Rattle.records.specs.Bodies.{many, name_text, form_text, names_field, forms_field, values_field, package_field, dependency_field}
 use Rattle.graph.specs.declared.faults.InRecord.{InRecord}
 use Rattle.graph.specs.declared.faults.FileFault.{FileFault}
@@ -65,7 +65,7 @@ fine-string : (bs : List ℕ) (at : ℕ) → Fine (string_of bs at)
 fine-string [] at = tt
 fine-string (n ∷ bs) at = fine-cond (ltb (length bs) n) _ _ tt tt
 
-fine_text : {A : Type 0} (r : Result A InField) → FineField (in_record r)
+fine_text : {A : Type 0} (r : Result A InField) → FineField (or_text r)
 fine_text (Ok a) v = tt
 fine_text (Err e) v = tt
 
@@ -83,10 +83,10 @@ fine-header : FineField header_field
 fine-header v = fine-then word_field (version_at v.place) (λ w. fine_word w.left w.place) (λ x w. fine-cond (eqb x 1) _ _ (fine_closed w.left w.place) tt) v
 
 fine-name : FineField name_field
-fine-name = fine-then string_field (λ p. in_record (name_of p)) (λ v. fine-string v.left v.place) (λ p. fine_text (name_of p))
+fine-name = fine-then string_field (λ p. or_text (name_of p)) (λ v. fine-string v.left v.place) (λ p. fine_text (name_of p))
 
 fine-form : FineField form_field
-fine-form = fine-then string_field (λ p. in_record (form_of p)) (λ v. fine-string v.left v.place) (λ p. fine_text (form_of p))
+fine-form = fine-then string_field (λ p. or_text (form_of p)) (λ v. fine-string v.left v.place) (λ p. fine_text (form_of p))
 
 fine-many : {A : Type 0} (m : Field A) → FineField m → (n : ℕ) → FineField (many m n)
 fine-many m h zero v = tt

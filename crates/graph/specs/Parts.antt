@@ -1,6 +1,8 @@
 -- A dependency or feature record, read again.
 use Rattle.std.specs.Prelude.{ℕ, cond, List, [], Some, None, Ok, Err, Option, Result, ◌==◌}
 use Rattle.records.specs.declared.faults.RecordFault.{RecordFault}
+use Rattle.records.specs.declared.frames.Kind.TheVariants as kind
+use Rattle.records.specs.Encoding.{kind_number}
 use Rattle.records.specs.Frames.{Frame, frame_of}
 use Rattle.records.specs.Fields.{View, Field, and_then, give}
 use Rattle.records.specs.Bodies.{name_text, dependency_field, values_field}
@@ -19,8 +21,8 @@ or_none f (Err e) = None
 
 abbrev pub part_as : Result Frame RecordFault → Option Part
 part_as (Ok f) =
-    cond (f.kind == 3) (or_none dependency (dependency_field (record { left = f.body; place = 6 })))
-    (cond (f.kind == 4) (or_none feature (feature_again (record { left = f.body; place = 6 })))
+    cond (f.kind == kind_number kind.Dependency) (or_none dependency (dependency_field (record { left = f.body; place = 6 })))
+    (cond (f.kind == kind_number kind.Feature) (or_none feature (feature_again (record { left = f.body; place = 6 })))
     None)
 part_as (Err e) = None
 

@@ -5,6 +5,7 @@ use Rattle.records.specs.declared.faults.RecordFault.{RecordFault}
 use Rattle.records.specs.declared.faults.RecordFault.TheVariants.{Cut, Stray, Many, Twice}
 use Rattle.records.specs.declared.frames.Kind.{Kind}
 use Rattle.records.specs.declared.frames.Kind.TheVariants as kind
+use Rattle.records.specs.Encoding.{kind_number}
 use Rattle.records.specs.Frames.{Frame, frame_of}
 use Rattle.records.specs.Fields.{View, Field, and_then, give, name_field, header_field, closed_field}
 use Rattle.records.specs.Bodies.{Head, package_field, dependency_field, values_field}
@@ -37,12 +38,12 @@ begin = record { number = 0; start = 0; packages = 0; dependencies = 0; keys = [
 -- which kind may stand here: a header first and only there, dependencies and features only after a package
 abbrev pub kind_here : ℕ → ℕ → ℕ → Option Kind
 kind_here number packages k =
-    cond (number == 0) (cond (k == 1) (Some kind.Header) None)
-    (cond (k == 2) (Some kind.Package)
-    (cond (k == 5) (Some kind.End)
+    cond (number == 0) (cond (k == kind_number kind.Header) (Some kind.Header) None)
+    (cond (k == kind_number kind.Package) (Some kind.Package)
+    (cond (k == kind_number kind.End) (Some kind.End)
     (cond (packages == 0) None
-    (cond (k == 3) (Some kind.Dependency)
-    (cond (k == 4) (Some kind.Feature) None)))))
+    (cond (k == kind_number kind.Dependency) (Some kind.Dependency)
+    (cond (k == kind_number kind.Feature) (Some kind.Feature) None)))))
 
 -- a record's answer, or Many if there are as many of its kind as may be
 abbrev pub below : {B : Type 0} → ℕ → ℕ → Result B RecordFault → Result B RecordFault

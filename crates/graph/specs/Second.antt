@@ -5,7 +5,8 @@ use Rattle.text.specs.Forms.{Form, plain, switch, strong, weak, spell}
 use Rattle.records.specs.declared.faults.RecordFault.{RecordFault}
 use Rattle.records.specs.declared.faults.RecordFault.TheVariants.{Unknown}
 use Rattle.records.specs.Graphs.{Dependency, Feature, Part, dependency, feature, Package, Graph}
-use Rattle.records.specs.Encoding.{record_bytes, package_body, part_bytes, header_bytes}
+use Rattle.records.specs.declared.frames.Kind.TheVariants as kind
+use Rattle.records.specs.Encoding.{kind_number, record_bytes, package_body, part_bytes, header_bytes}
 use Rattle.graph.specs.declared.faults.InRecord.{InRecord}
 use Rattle.graph.specs.Places.{dependencies_of, features_of}
 use Rattle.graph.specs.Limits.{end_place, dependency_name_place, feature_name_place}
@@ -23,7 +24,7 @@ placed_parts number start owner [] = []
 placed_parts number start owner (p ∷ ps) = record { number = number; start = start; owner = owner; part = p } ∷ placed_parts (number + 1) (start + length (part_bytes p)) owner ps
 
 abbrev pub package_record : Package → List ℕ
-package_record a = record_bytes 2 (package_body a.proc a.name)
+package_record a = record_bytes (kind_number kind.Package) (package_body a.proc a.name)
 
 abbrev pub parts_length : List Part → ℕ
 parts_length [] = 0

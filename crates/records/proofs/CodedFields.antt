@@ -15,7 +15,7 @@ use Rattle.records.specs.declared.faults.RecordFault.TheVariants.{Ragged}
 use Rattle.records.specs.declared.faults.InField.{InField}
 use Rattle.records.specs.declared.bodies.Edge.{Edge}
 use Rattle.records.specs.declared.bodies.Edge.TheVariants.{Normal, Build, Dev}
-use Rattle.records.specs.Fields.{View, Field, on_ok, and_then, give, byte_of, byte_field, word_of, word_field, string_of, in_field, in_record, name_of, form_of, switch_at, switch_field, edge_at, edge_field}
+use Rattle.records.specs.Fields.{View, Field, on_ok, and_then, give, byte_of, byte_field, word_of, word_field, string_of, in_field, or_text, name_of, form_of, switch_at, switch_field, edge_at, edge_field}
 use Rattle.records.specs.Bodies.{many, name_text, form_text, names_field, forms_field, values_field, package_field, dependency_field}
 use Rattle.records.specs.Encoding.{two, string, list_bytes, value, bit, edge_number, Bytes}
 use Rattle.records.proofs.Numbers.{not-both, in-ok, two_is, two-value, bytes-split}
@@ -103,15 +103,15 @@ string-complete t rest k =
 module _ {A B : Type 0} (judge : Piece → Result B InField) (out : B → A) (Good : A → Type 0) (text : A → List ℕ)
     (judged : (p : Piece) (b : B) → judge p ≡ Ok b → Good (out b) × (p.text ≡ text (out b)))
     (judges : (a : A) (k : ℕ) → Good a → (b : B) × (judge (record { place = k; text = text a }) ≡ Ok b) × (out b ≡ a)) where
-  placed-ok : (r : Result B InField) (v : View) (a : A) (w : View) → on_ok (in_record r v) (λ b. give (out b)) ≡ Ok (a, w) → (b : B) × (r ≡ Ok b) × (out b ≡ a) × (v ≡ w)
+  placed-ok : (r : Result B InField) (v : View) (a : A) (w : View) → on_ok (or_text r v) (λ b. give (out b)) ≡ Ok (a, w) → (b : B) × (r ≡ Ok b) × (out b ≡ a) × (v ≡ w)
   placed-ok (Ok b) v a w e = let q = in-ok (out b, v) (a, w) e in (b, refl, ap (λ p. p.0) q, ap (λ p. p.1) q)
   placed-ok (Err x) v a w e = absurd (not-both e)
 
-  string-coded : Coded (and_then (λ v. on_ok (string_of v.left v.place) (λ p. in_record (judge p))) (λ b. give (out b))) Good (λ a. string (text a))
+  string-coded : Coded (and_then (λ v. on_ok (string_of v.left v.place) (λ p. or_text (judge p))) (λ b. give (out b))) Good (λ a. string (text a))
   string-coded = record {
     sound = λ bs k a w fit e.
-        let h = first (on_ok (string_of bs k) (λ p. in_record (judge p))) (λ b. give (out b)) a w e in
-        let s = string-sound bs k (λ p. in_record (judge p)) h.0 h.1 h.2 in
+        let h = first (on_ok (string_of bs k) (λ p. or_text (judge p))) (λ b. give (out b)) a w e in
+        let s = string-sound bs k (λ p. or_text (judge p)) h.0 h.1 h.2 in
         let e2 = ap (λ r. on_ok r (λ b. give (out b))) s.3 ∙ h.3 in
         let j = placed-ok (judge (record { place = k + 1; text = s.0 })) (at s.1 ((k + 1) + length s.0)) a w e2 in
         let g = judged (record { place = k + 1; text = s.0 }) j.0 j.1 in
@@ -120,8 +120,8 @@ module _ {A B : Type 0} (judge : Piece → Result B InField) (out : B → A) (Go
     complete = λ a rest k good.
         let j = judges a (k + 1) good in
         let z : (k + 1) + length (text a) ≡ k + length (string (text a)) = omega arith in
-        ap (λ r. on_ok (on_ok r (λ p. in_record (judge p))) (λ b. give (out b))) (string-complete (text a) rest k)
-        ∙ ap (λ r. on_ok (in_record r (at rest ((k + 1) + length (text a)))) (λ b. give (out b))) j.1
+        ap (λ r. on_ok (on_ok r (λ p. or_text (judge p))) (λ b. give (out b))) (string-complete (text a) rest k)
+        ∙ ap (λ r. on_ok (or_text r (at rest ((k + 1) + length (text a)))) (λ b. give (out b))) j.1
         ∙ (λ i. Ok (j.2 i, at rest (z i)));
   }
 

@@ -4,14 +4,14 @@ use Rattle.std.proofs.lemmas.List.{drop_at}
 use Rattle.text.specs.Forms.{Piece}
 use Rattle.records.specs.declared.faults.InField.{InField}
 use Rattle.records.specs.declared.faults.RecordFault.{RecordFault}
-use Rattle.records.specs.Fields.{View, and_then, give, in_record, text_field, labelled, void}
+use Rattle.records.specs.Fields.{View, and_then, give, or_text, text_field, labelled, void}
 use Rattle.records.specs.Bodies.{many, listed}
 use Rattle.records.specs.Encoding.{string}
 use Rattle.records.proofs.Numbers.{not-both, in-ok}
 use Rattle.records.proofs.Codes.{first}
 use Rattle.records.proofs.CodedFields.{string-sound}
 
-read-left : {A : Type 0} (r : Result A InField) (v : View) (a : A) (w : View) → in_record r v ≡ Ok (a, w) → v.left ≡ w.left
+read-left : {A : Type 0} (r : Result A InField) (v : View) (a : A) (w : View) → or_text r v ≡ Ok (a, w) → v.left ≡ w.left
 read-left (Ok b) v a w e = ap (λ p. p.1.left) (in-ok (b, v) (a, w) e)
 read-left (Err x) v a w e = absurd (not-both e)
 
@@ -24,7 +24,7 @@ one-more n t rest bs left q l i =
 module _ {A : Type 0} (read : Piece → Result A InField) where
   front : (n : ℕ) (v : View) (a : A) (w : View) → text_field read v ≡ Ok (a, w) → length (listed n w.left) ≡ n → length (listed (suc n) v.left) ≡ suc n
   front n v a w e i =
-      let s = string-sound v.left v.place (λ p. in_record (read p)) a w e in
+      let s = string-sound v.left v.place (λ p. or_text (read p)) a w e in
       let l = read-left (read (record { place = v.place + 1; text = s.0 })) (record { left = s.1; place = (v.place + 1) + length s.0 }) a w s.3 in
       one-more n s.0 s.1 v.left w.left s.2 l i
 

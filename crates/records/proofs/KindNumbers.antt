@@ -6,15 +6,9 @@ use Rattle.records.specs.declared.faults.RecordFault.{RecordFault}
 use Rattle.records.specs.declared.faults.RecordFault.TheVariants.{Stray}
 use Rattle.records.specs.declared.frames.Kind.{Kind}
 use Rattle.records.specs.declared.frames.Kind.TheVariants as kind
+use Rattle.records.specs.Encoding.{kind_number}
 use Rattle.records.specs.Frames.{kind_at}
 use Rattle.records.proofs.Numbers.{not-both}
-
-abbrev pub kind_number : Kind → ℕ
-kind_number kind.Header = 1
-kind_number kind.Package = 2
-kind_number kind.Dependency = 3
-kind_number kind.Feature = 4
-kind_number kind.End = 5
 
 same-kind : (a k : Kind) → ◌≡◌ {A = Option Kind} (Some a) (Some k) → a ≡ k
 same-kind a k e = cc

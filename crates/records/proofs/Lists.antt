@@ -7,7 +7,7 @@ use Rattle.text.specs.Forms.{Form, Piece, unplaced}
 use Rattle.text.specs.Readers.{read_name, read_form}
 use Rattle.records.specs.declared.faults.RecordFault.{RecordFault}
 use Rattle.records.specs.declared.strings.Strings.{Strings}
-use Rattle.records.specs.Fields.{View, Field, outcome_by, on_ok, and_then, give, labelled, void, byte_field, string_of, in_field, in_record, name_of, name_field, form_of, form_field}
+use Rattle.records.specs.Fields.{View, Field, outcome_by, on_ok, and_then, give, labelled, void, byte_field, string_of, in_field, or_text, name_of, name_field, form_of, form_field}
 use Rattle.records.specs.Bodies.{many, listed, list_field, form_in, said, texts, forms, names_field, forms_field}
 
 -- a reading of which f keeps `val` of the string at the front, and which leaves what follows it
@@ -60,32 +60,32 @@ module _ {A B : Type 0} (m : Field B) (f : B → A) (val : List ℕ → A) (shap
 name-shape : (v : View) → Shape {A = List ℕ} {B = Piece} (λ p. p.text) (λ t. t) v.left (name_field v)
 name-shape v = go v.left v.place
   where
-    read : (k at : ℕ) (bs : List ℕ) (r : Result Piece StringFault) → Shape {A = List ℕ} {B = Piece} (λ p. p.text) (λ t. t) (k ∷ bs) (in_record (in_field {A = Piece} (at + 1) (λ _. record { place = at + 1; text = take k bs }) r) (record { left = drop k bs; place = (at + 1) + k }))
+    read : (k at : ℕ) (bs : List ℕ) (r : Result Piece StringFault) → Shape {A = List ℕ} {B = Piece} (λ p. p.text) (λ t. t) (k ∷ bs) (or_text (in_field {A = Piece} (at + 1) (λ _. record { place = at + 1; text = take k bs }) r) (record { left = drop k bs; place = (at + 1) + k }))
     read k at bs (Ok p) = (refl, refl)
     read k at bs (Err e) = tt
 
-    go : (left : List ℕ) (at : ℕ) → Shape {A = List ℕ} {B = Piece} (λ p. p.text) (λ t. t) left (on_ok (string_of left at) (λ p. in_record (name_of p)))
+    go : (left : List ℕ) (at : ℕ) → Shape {A = List ℕ} {B = Piece} (λ p. p.text) (λ t. t) left (on_ok (string_of left at) (λ p. or_text (name_of p)))
     go [] at = tt
     go (k ∷ bs) at =
-        cond_both (ltb (length bs) k) _ _ (λ r. Shape {A = List ℕ} {B = Piece} (λ p. p.text) (λ t. t) (k ∷ bs) (on_ok r (λ p. in_record (name_of p))))
+        cond_both (ltb (length bs) k) _ _ (λ r. Shape {A = List ℕ} {B = Piece} (λ p. p.text) (λ t. t) (k ∷ bs) (on_ok r (λ p. or_text (name_of p))))
         (λ _. tt) (λ _. read k at bs (read_name (take k bs)))
 
 form-shape : (v : View) → Shape unplaced form_in v.left (form_field v)
 form-shape v = go v.left v.place
   where
-    read : (k at : ℕ) (bs : List ℕ) (r : Result (Form Piece) StringFault) → read_form (take k bs) ≡ r → Shape unplaced form_in (k ∷ bs) (in_record (in_field (at + 1) (λ f. f) r) (record { left = drop k bs; place = (at + 1) + k }))
+    read : (k at : ℕ) (bs : List ℕ) (r : Result (Form Piece) StringFault) → read_form (take k bs) ≡ r → Shape unplaced form_in (k ∷ bs) (or_text (in_field (at + 1) (λ f. f) r) (record { left = drop k bs; place = (at + 1) + k }))
     read k at bs (Ok f) e = (sym (ap (said (take k bs)) e), refl)
     read k at bs (Err x) e = tt
 
-    form : (k at : ℕ) (bs : List ℕ) → Shape unplaced form_in (k ∷ bs) (in_record (form_of (record { place = at + 1; text = take k bs })) (record { left = drop k bs; place = (at + 1) + k }))
+    form : (k at : ℕ) (bs : List ℕ) → Shape unplaced form_in (k ∷ bs) (or_text (form_of (record { place = at + 1; text = take k bs })) (record { left = drop k bs; place = (at + 1) + k }))
     form k at bs =
-        cond_both (eqb (length (take k bs)) 0) _ _ (λ r. Shape unplaced form_in (k ∷ bs) (in_record r (record { left = drop k bs; place = (at + 1) + k })))
+        cond_both (eqb (length (take k bs)) 0) _ _ (λ r. Shape unplaced form_in (k ∷ bs) (or_text r (record { left = drop k bs; place = (at + 1) + k })))
         (λ _. tt) (λ _. read k at bs (read_form (take k bs)) refl)
 
-    go : (left : List ℕ) (at : ℕ) → Shape unplaced form_in left (on_ok (string_of left at) (λ p. in_record (form_of p)))
+    go : (left : List ℕ) (at : ℕ) → Shape unplaced form_in left (on_ok (string_of left at) (λ p. or_text (form_of p)))
     go [] at = tt
     go (k ∷ bs) at =
-        cond_both (ltb (length bs) k) _ _ (λ r. Shape unplaced form_in (k ∷ bs) (on_ok r (λ p. in_record (form_of p))))
+        cond_both (ltb (length bs) k) _ _ (λ r. Shape unplaced form_in (k ∷ bs) (on_ok r (λ p. or_text (form_of p))))
         (λ _. tt) (λ _. form k at bs)
 
 pub names-told : (r : Result Strings RecordFault) (v w : View) → outcome_by texts r w ≡ list_field name_field v → outcome_by texts r w ≡ names_field v

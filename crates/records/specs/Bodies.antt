@@ -111,11 +111,6 @@ dependency_field =
 abbrev pub dependency_name_at : ℕ → ℕ
 dependency_name_at at = at + 6
 
--- one more in front, where there is one
-abbrev pub ahead : {A : Type 0} → Option A → List A → List A
-ahead None xs = []
-ahead (Some x) xs = x ∷ xs
-
 abbrev pub bytes_in : Option (Bor (List ℕ)) → Option (List ℕ)
 bytes_in None = None
 bytes_in (Some x) = Some x.now

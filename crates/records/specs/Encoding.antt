@@ -16,6 +16,7 @@ two x = x % 256 ∷ x / 256 ∷ []
 abbrev pub four : ℕ → List ℕ
 four x = x % 256 ∷ (x / 256) % 256 ∷ (x / 65536) % 256 ∷ x / 16777216 ∷ []
 
+-- the numbers of the kinds of records
 abbrev pub kind_number : Kind → ℕ
 kind_number kind.Header = 1
 kind_number kind.Package = 2
@@ -35,6 +36,7 @@ string t = length t ∷ t
 abbrev pub list_bytes : {A : Type 0} → (A → List ℕ) → List A → List ℕ
 list_bytes bytes xs = length xs ∷ flat_map bytes xs
 
+-- a feature string
 abbrev pub value : Form (List ℕ) → List ℕ
 value f = string (spell f)
 
@@ -62,18 +64,21 @@ abbrev pub feature_body : Feature → List ℕ
 feature_body f = string f.name ++ list_bytes value f.values
 
 abbrev pub part_bytes : Part → List ℕ
-part_bytes (dependency d) = record_bytes 3 (dependency_body d)
-part_bytes (feature f) = record_bytes 4 (feature_body f)
+part_bytes (dependency d) = record_bytes (kind_number kind.Dependency) (dependency_body d)
+part_bytes (feature f) = record_bytes (kind_number kind.Feature) (feature_body f)
 
 abbrev pub package_bytes : Package → List ℕ
-package_bytes p = record_bytes 2 (package_body p.proc p.name) ++ flat_map part_bytes p.parts
+package_bytes p = record_bytes (kind_number kind.Package) (package_body p.proc p.name) ++ flat_map part_bytes p.parts
 
 abbrev pub end_bytes : List ℕ
-end_bytes = record_bytes 5 []
+end_bytes = record_bytes (kind_number kind.End) []
 
--- the version is 1
+-- the version of the format
+abbrev pub version : ℕ
+version = 1
+
 abbrev pub header_bytes : List ℕ
-header_bytes = record_bytes 1 (two 1)
+header_bytes = record_bytes (kind_number kind.Header) (two version)
 
 -- a header, the packages each with what belongs to it, and an end record
 abbrev pub encode : Graph → List ℕ
@@ -86,5 +91,6 @@ LawfulDependency d = (d.end < 65536) × Name d.name × (length d.asks < 256) × 
 abbrev pub LawfulFeature : Feature → Type 0
 LawfulFeature f = Name f.name × (length f.values < 256) × AllByRecursion Lawful f.values
 
+-- each number is a byte
 abbrev pub Bytes : List ℕ → Type 0
 Bytes bs = AllByRecursion (λ b. b < 256) bs

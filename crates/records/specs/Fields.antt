@@ -23,11 +23,12 @@ view r = record { left = r.rest.now; place = r.at }
 abbrev pub Field : Type 0 → Type 0
 Field A = View → Result (A × View) RecordFault
 
--- what a call answered, with what it left; and the same with the bytes in the place of what refers to them
+-- what a call answered, seen as something else, with what it left
 abbrev pub outcome_by : {A B : Type 0} → (A → B) → Result A RecordFault → View → Result (B × View) RecordFault
 outcome_by f (Ok a) v = Ok (f a, v)
 outcome_by f (Err e) v = Err e
 
+-- what a call answered, with what it left
 abbrev pub outcome : {A : Type 0} → Result A RecordFault → View → Result (A × View) RecordFault
 outcome (Ok a) v = Ok (a, v)
 outcome (Err e) v = Err e
@@ -82,19 +83,20 @@ abbrev pub in_field : {A B : Type 0} → ℕ → (A → B) → Result A StringFa
 in_field at f (Ok a) = Ok (f a)
 in_field at f (Err e) = Err (record { field = at; fault = e })
 
-abbrev pub in_record : {A : Type 0} → Result A InField → Field A
-in_record (Ok a) v = Ok (a, v)
-in_record (Err e) v = Err (Text e)
+-- what was made of a string, or its fault as the record's
+abbrev pub or_text : {A : Type 0} → Result A InField → Field A
+or_text (Ok a) v = Ok (a, v)
+or_text (Err e) v = Err (Text e)
 
 -- a string of which a reading says what it is
 abbrev pub text_field : {A : Type 0} → (Piece → Result A InField) → Field A
-text_field read = and_then string_field (λ p. in_record (read p))
+text_field read = and_then string_field (λ p. or_text (read p))
 
 abbrev pub name_of : Piece → Result Piece InField
 name_of p = in_field p.place (λ _. p) (read_name p.text)
 
 abbrev pub name_field : Field Piece
-name_field = and_then string_field (λ p. in_record (name_of p))
+name_field = text_field name_of
 
 -- a feature string; the empty one has a test of its own
 abbrev pub form_of : Piece → Result (Form Piece) InField
@@ -103,7 +105,7 @@ form_of p =
     (in_field p.place (λ f. f) (read_form p.text))
 
 abbrev pub form_field : Field (Form Piece)
-form_field = and_then string_field (λ p. in_record (form_of p))
+form_field = text_field form_of
 
 -- a byte that is 0 or 1
 abbrev pub switch_at : ℕ → ℕ → Field Bool

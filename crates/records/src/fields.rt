@@ -62,6 +62,9 @@ impl<'a> Text<'a> for FeatureString<'a> {
     }
 }
 
+// The version of the format.
+const VERSION: u16 = 1;
+
 impl<'a> Reader<'a> {
     // The next so many bytes.
     fn array<const N: usize>(&mut self) -> Result<[u8; N], RecordFault>
@@ -243,7 +246,7 @@ impl<'a> Reader<'a> {
     {
         let field = self.at;
         let version = self.word()?;
-        if version != 1 {
+        if version != VERSION {
             return Err(RecordFault::Mark { field });
         }
         self.closed()

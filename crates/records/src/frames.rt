@@ -46,9 +46,9 @@ pub struct Frame<'a> {
 pub fn first_frame<'a>(bytes: &'a [u8]) -> Result<Frame<'a>, RecordFault>
     ensures { mapped frame result ≡ frame_of bytes.now }
 {
-    let (long, rest) = bytes.split_first_chunk::<4>().ok_or(RecordFault::Cut)?;
-    let long = u32::from_le_bytes(*long) as usize;
-    let (inside, after) = rest.split_at_checked(long).ok_or(RecordFault::Cut)?;
+    let (length, rest) = bytes.split_first_chunk::<4>().ok_or(RecordFault::Cut)?;
+    let length = u32::from_le_bytes(*length) as usize;
+    let (inside, after) = rest.split_at_checked(length).ok_or(RecordFault::Cut)?;
     let (kind, body) = inside
         .split_first_chunk::<2>()
         .ok_or(RecordFault::Ragged { field: 0 })?;

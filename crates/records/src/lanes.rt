@@ -1,11 +1,13 @@
 // Lanes: the kinds of dependencies that rows and policies tell apart, and the numbers of lanes and edge kinds.
 ghost use Rattle.std.specs.Prelude.{◌≡◌, ok_or};
 ghost use Rattle.records.specs.Encoding.{edge_number};
-ghost use Rattle.records.specs.Lanes.{edge_at, lane_at, lane_number, unknown};
+ghost use Rattle.records.specs.Lanes.{edge_numbered, lane_at, lane_number, unknown};
 
 use crate::bodies::Edge;
 
-// How many lanes there are.
+// How many edge kinds there are, and how many lanes.
+const EDGE_KINDS: u32 = 3;
+
 pub const LANES: u32 = 6;
 
 // What a policy looks at in a dependency: its edge kind, and whether its end is a procedural macro.
@@ -35,13 +37,13 @@ impl From<Lane> for u32 {
     ghost from_gives = { λ lane n. n ≡ lane_number lane };
 
     fn from(lane: Lane) -> u32 {
-        u32::from(lane.edge) + 3 * u32::from(lane.procedural)
+        u32::from(lane.edge) + EDGE_KINDS * u32::from(lane.procedural)
     }
 }
 
 // The edge kind of a number below 3: `TryFrom` would only add an error that never comes.
 fn edge_of_number(number: u32) -> Edge
-    ensures { result ≡ edge_at number }
+    ensures { result ≡ edge_numbered number }
 {
     match number {
         0 => Edge::Normal,
@@ -60,8 +62,8 @@ impl TryFrom<u32> for Lane {
             return Err(UnknownLane(number));
         }
         Ok(Lane {
-            edge: edge_of_number(number % 3),
-            procedural: number / 3 == 1,
+            edge: edge_of_number(number % EDGE_KINDS),
+            procedural: number / EDGE_KINDS == 1,
         })
     }
 }

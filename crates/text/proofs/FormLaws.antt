@@ -8,8 +8,8 @@ use Rattle.text.specs.declared.faults.StringFault.TheVariants.{NoForm}
 use Rattle.text.specs.declared.strings.Link.{Link}
 use Rattle.text.specs.declared.strings.Link.TheVariants.{Switch, Strong, Weak}
 use Rattle.text.specs.declared.strings.State.{State}
-use Rattle.text.specs.declared.strings.State.TheVariants.{Start, First, Asked, Second, Last}
-use Rattle.text.specs.Names.{initial, inner, longest, Name}
+use Rattle.text.specs.declared.strings.State.TheVariants.{Start, First, AfterQuestion, BeforeLast, Last}
+use Rattle.text.specs.Names.{initial, inner, longest_name, Name}
 use Rattle.text.specs.Forms.{Form, plain, switch, strong, weak, Lawful, spell, Piece, whole, placed, unplaced}
 use Rattle.text.specs.Prefixes.{Begins, Longest}
 use Rattle.text.specs.Laws.{FormLaw}
@@ -20,17 +20,17 @@ use Rattle.text.proofs.FormRuns.{Kept, accepts}
 
 -- what stands before the last name
 abbrev Opens : Link → ℕ → List ℕ → Type 0
-Opens Switch cut q = q ≡ codes "dep:"
-Opens Strong cut q = (n : List ℕ) × (q ≡ n ++ codes "/") × Name n × (length n ≡ cut)
-Opens Weak cut q = (n : List ℕ) × (q ≡ n ++ codes "?/") × Name n × (length n ≡ cut)
+Opens Switch first_len q = q ≡ codes "dep:"
+Opens Strong first_len q = (n : List ℕ) × (q ≡ n ++ codes "/") × Name n × (length n ≡ first_len)
+Opens Weak first_len q = (n : List ℕ) × (q ≡ n ++ codes "?/") × Name n × (length n ≡ first_len)
 
 -- what a state tells of the bytes p that led to it
 abbrev Before : State → List ℕ → Type 0
 Before Start p = p ≡ []
 Before (First len dep) p = Name p × (length p ≡ len) × (dep ≡ true → p ≡ take len (codes "dep"))
-Before (Asked cut) p = (n : List ℕ) × (p ≡ n ++ codes "?") × Name n × (length n ≡ cut)
-Before (Second link cut) p = Opens link cut p
-Before (Last link cut len) p = (q g : List ℕ) × (p ≡ q ++ g) × Opens link cut q × Name g × (length g ≡ len)
+Before (AfterQuestion first_len) p = (n : List ℕ) × (p ≡ n ++ codes "?") × Name n × (length n ≡ first_len)
+Before (BeforeLast link first_len) p = Opens link first_len p
+Before (Last link first_len len) p = (q g : List ℕ) × (p ≡ q ++ g) × Opens link first_len q × Name g × (length g ≡ len)
 
 spelled : (p : List ℕ) (dep : Bool) (len c : ℕ) → (dep ≡ true → p ≡ take len (codes "dep")) → spelling dep len c ≡ true → p ++ c ∷ [] ≡ take (len + 1) (codes "dep")
 spelled p dep len c e h =
@@ -58,9 +58,9 @@ kept Start p c b =
     (subst Name (sym e) (one_byte c h), ap length e, spelled p true 0 c (λ _. b)))
     (λ _. tt)
 kept (First len dep) p c b =
-    cond_both (inner c && ltb len longest) _ _ (Kept (λ s'. Before s' (p ++ c ∷ [])))
-    (λ h. let i = and_parts (inner c) (ltb len longest) h in
-    (name-push p c b.0 i.0 (omega (arith, b.1, ltb-true len longest i.1)), omega (arith, length_push p c, b.1), spelled p dep len c b.2))
+    cond_both (inner c && ltb len longest_name) _ _ (Kept (λ s'. Before s' (p ++ c ∷ [])))
+    (λ h. let i = and_parts (inner c) (ltb len longest_name) h in
+    (name-push p c b.0 i.0 (omega (arith, b.1, ltb-true len longest_name i.1)), omega (arith, length_push p c, b.1), spelled p dep len c b.2))
     (λ _. cond_both (eqb c slash) _ _ (Kept (λ s'. Before s' (p ++ c ∷ [])))
     (λ h. (p, then p c slash h, b.0, b.1))
     (λ _. cond_both (eqb c question) _ _ (Kept (λ s'. Before s' (p ++ c ∷ [])))
@@ -70,20 +70,20 @@ kept (First len dep) p c b =
     let d = and_parts dep (eqb len 3) i.1 in
     then p c colon i.0 ∙ ap (λ x. x ++ colon ∷ []) (b.2 d.0 ∙ ap (λ m. take m (codes "dep")) (eqb-true len 3 d.1)))
     (λ _. tt))))
-kept (Asked cut) p c b =
+kept (AfterQuestion first_len) p c b =
     cond_both (eqb c slash) _ _ (Kept (λ s'. Before s' (p ++ c ∷ [])))
     (λ h. (b.0, then p c slash h ∙ ap (λ x. x ++ slash ∷ []) b.1 ∙ append_assoc b.0 (codes "?") (codes "/"), b.2, b.3))
     (λ _. tt)
-kept (Second link cut) p c b =
+kept (BeforeLast link first_len) p c b =
     cond_both (initial c) _ _ (Kept (λ s'. Before s' (p ++ c ∷ []))) (λ h. (p, c ∷ [], refl, b, one_byte c h, refl)) (λ _. tt)
-kept (Last link cut len) p c b =
-    cond_both (inner c && ltb len longest) _ _ (Kept (λ s'. Before s' (p ++ c ∷ [])))
-    (λ h. let i = and_parts (inner c) (ltb len longest) h in (
+kept (Last link first_len len) p c b =
+    cond_both (inner c && ltb len longest_name) _ _ (Kept (λ s'. Before s' (p ++ c ∷ [])))
+    (λ h. let i = and_parts (inner c) (ltb len longest_name) h in (
       b.0,
       b.1 ++ c ∷ [],
       ap (λ x. x ++ c ∷ []) b.2 ∙ append_assoc b.0 b.1 (c ∷ []),
       b.3,
-      name-push b.1 c b.4 i.0 (omega (arith, b.5, ltb-true len longest i.1)),
+      name-push b.1 c b.4 i.0 (omega (arith, b.5, ltb-true len longest_name i.1)),
       omega (arith, length_push b.1 c, b.5),
     ))
     (λ _. tt)
@@ -92,18 +92,18 @@ before_more : (s s' : State) (p : List ℕ) (c : ℕ) → Before s p → step s 
 before_more s s' p c b e = subst (Kept (λ x. Before x (p ++ c ∷ []))) e (kept s p c b)
 
 -- with a last name, what stands before it becomes a lawful string
-opened : (link : Link) (cut : ℕ) (q g : List ℕ) → Opens link cut q → Name g → (f : Form (List ℕ)) × Lawful f × (q ++ g ≡ spell f)
-opened Switch cut q g o n = (switch g, n, ap (λ x. x ++ g) o)
-opened Strong cut q g o n = (strong o.0 g, (o.2, n), ap (λ x. x ++ g) o.1 ∙ append_assoc o.0 (codes "/") g)
-opened Weak cut q g o n = (weak o.0 g, (o.2, n), ap (λ x. x ++ g) o.1 ∙ append_assoc o.0 (codes "?/") g)
+opened : (link : Link) (first_len : ℕ) (q g : List ℕ) → Opens link first_len q → Name g → (f : Form (List ℕ)) × Lawful f × (q ++ g ≡ spell f)
+opened Switch first_len q g o n = (switch g, n, ap (λ x. x ++ g) o)
+opened Strong first_len q g o n = (strong o.0 g, (o.2, n), ap (λ x. x ++ g) o.1 ∙ append_assoc o.0 (codes "/") g)
+opened Weak first_len q g o n = (weak o.0 g, (o.2, n), ap (λ x. x ++ g) o.1 ∙ append_assoc o.0 (codes "?/") g)
 
 begun : (s : State) (p : List ℕ) → Before s p → Begins Lawful spell p
 begun Start p b = (plain (97 ∷ []), 97 ∷ [], letter, ap (λ x. x ++ 97 ∷ []) b)
 begun (First len dep) p b = (plain p, [], b.0, append-nil p)
-begun (Asked cut) p b =
+begun (AfterQuestion first_len) p b =
     (weak b.0 (97 ∷ []), slash ∷ 97 ∷ [], (b.2, letter), ap (λ x. x ++ slash ∷ 97 ∷ []) b.1 ∙ append_assoc b.0 (codes "?") (slash ∷ 97 ∷ []))
-begun (Second link cut) p b = let o = opened link cut p (97 ∷ []) b letter in (o.0, 97 ∷ [], o.1, o.2)
-begun (Last link cut len) p b = let o = opened link cut b.0 b.1 b.3 b.4 in (o.0, [], o.1, append-nil p ∙ b.2 ∙ o.2)
+begun (BeforeLast link first_len) p b = let o = opened link first_len p (97 ∷ []) b letter in (o.0, 97 ∷ [], o.1, o.2)
+begun (Last link first_len len) p b = let o = opened link first_len b.0 b.1 b.3 b.4 in (o.0, [], o.1, append-nil p ∙ b.2 ∙ o.2)
 
 -- a string that ends too early
 short : (s : State) (t : List ℕ) → Before s t → Longest Lawful spell t (length t)
@@ -114,9 +114,9 @@ short s t b = record {
 }
 
 -- the parts as the state tells them are those of the form
-parted : (n m : List ℕ) (cut k : ℕ) → length n ≡ cut → (upto cut (n ++ m) ≡ whole n) × (from (cut + k) (n ++ m) ≡ record { place = length n + k; text = drop k m })
-parted n m cut k e = (
-  ap whole (take_at n m cut e),
+parted : (n m : List ℕ) (first_len k : ℕ) → length n ≡ first_len → (upto first_len (n ++ m) ≡ whole n) × (from (first_len + k) (n ++ m) ≡ record { place = length n + k; text = drop k m })
+parted n m first_len k e = (
+  ap whole (take_at n m first_len e),
   subst (λ j. from (j + k) (n ++ m) ≡ record { place = length n + k; text = drop k m }) e (ap (λ x. record { place = length n + k; text = x }) (drop-append-add n m k)),
 )
 
@@ -124,24 +124,24 @@ at-end : (s : State) (t : List ℕ) → Before s t → Verdict Lawful spell plac
 unfolding opened
 at-end Start t b = (length t, refl, short Start t b)
 at-end (First len dep) t b = (plain t, b.0, refl, refl)
-at-end (Asked cut) t b = (length t, refl, short (Asked cut) t b)
-at-end (Second link cut) t b = (length t, refl, short (Second link cut) t b)
-at-end (Last Switch cut len) t b =
-    let o = opened Switch cut b.0 b.1 b.3 b.4 in
+at-end (AfterQuestion first_len) t b = (length t, refl, short (AfterQuestion first_len) t b)
+at-end (BeforeLast link first_len) t b = (length t, refl, short (BeforeLast link first_len) t b)
+at-end (Last Switch first_len len) t b =
+    let o = opened Switch first_len b.0 b.1 b.3 b.4 in
     let e : t ≡ spell (switch b.1) = b.2 ∙ o.2 in
     (switch b.1, b.4, e, ap (λ x. switch (from 4 x)) e)
-at-end (Last Strong cut len) t b =
-    let o = opened Strong cut b.0 b.1 b.3 b.4 in
+at-end (Last Strong first_len len) t b =
+    let o = opened Strong first_len b.0 b.1 b.3 b.4 in
     let n = b.3.0 in
     let e : t ≡ spell (strong n b.1) = b.2 ∙ o.2 in
-    let p = parted n (slash ∷ b.1) cut 1 b.3.3 in
-    (strong n b.1, o.1, e, ap (λ x. strong (upto cut x) (from (cut + 1) x)) e ∙ (λ i. strong (p.0 i) (p.1 i)))
-at-end (Last Weak cut len) t b =
-    let o = opened Weak cut b.0 b.1 b.3 b.4 in
+    let p = parted n (slash ∷ b.1) first_len 1 b.3.3 in
+    (strong n b.1, o.1, e, ap (λ x. strong (upto first_len x) (from (first_len + 1) x)) e ∙ (λ i. strong (p.0 i) (p.1 i)))
+at-end (Last Weak first_len len) t b =
+    let o = opened Weak first_len b.0 b.1 b.3 b.4 in
     let n = b.3.0 in
     let e : t ≡ spell (weak n b.1) = b.2 ∙ o.2 in
-    let p = parted n (question ∷ slash ∷ b.1) cut 2 b.3.3 in
-    (weak n b.1, o.1, e, ap (λ x. weak (upto cut x) (from (cut + 2) x)) e ∙ (λ i. weak (p.0 i) (p.1 i)))
+    let p = parted n (question ∷ slash ∷ b.1) first_len 2 b.3.3 in
+    (weak n b.1, o.1, e, ap (λ x. weak (upto first_len x) (from (first_len + 2) x)) e ∙ (λ i. weak (p.0 i) (p.1 i)))
 
 pub unplaced-placed : (f : Form (List ℕ)) → unplaced (placed f) ≡ f
 unplaced-placed (plain g) = refl

@@ -7,8 +7,8 @@ use Rattle.text.specs.declared.faults.StringFault.TheVariants.{NoForm}
 use Rattle.text.specs.declared.strings.Link.{Link}
 use Rattle.text.specs.declared.strings.Link.TheVariants.{Switch, Strong, Weak}
 use Rattle.text.specs.declared.strings.State.{State}
-use Rattle.text.specs.declared.strings.State.TheVariants.{Start, First, Asked, Second, Last}
-use Rattle.text.specs.Names.{initial, inner, Inner, longest, Name}
+use Rattle.text.specs.declared.strings.State.TheVariants.{Start, First, AfterQuestion, BeforeLast, Last}
+use Rattle.text.specs.Names.{initial, inner, Inner, longest_name, Name}
 use Rattle.text.specs.Forms.{Form, plain, switch, strong, weak, Lawful, spell, whole, placed}
 use Rattle.text.specs.Machines.{read_from}
 use Rattle.text.specs.Readers.{slash, question, colon, spelling, step, finish, read_form, Room}
@@ -23,16 +23,16 @@ Kept P (Some s) = P s
 room-kept : (s : State) (c at : ℕ) → Room s at → Kept (λ s'. Room s' (at + 1)) (step s c)
 room-kept Start c at r = cond_both (initial c) _ _ (Kept (λ s'. Room s' (at + 1))) (λ _. omega arith) (λ _. tt)
 room-kept (First len dep) c at r =
-    cond_both (inner c && ltb len longest) _ _ (Kept (λ s'. Room s' (at + 1))) (λ _. omega arith)
+    cond_both (inner c && ltb len longest_name) _ _ (Kept (λ s'. Room s' (at + 1))) (λ _. omega arith)
     (λ _. cond_both (eqb c slash) _ _ (Kept (λ s'. Room s' (at + 1))) (λ _. (omega arith, tt))
     (λ _. cond_both (eqb c question) _ _ (Kept (λ s'. Room s' (at + 1))) (λ _. omega arith)
     (λ _. cond_both (eqb c colon && (dep && eqb len 3)) _ _ (Kept (λ s'. Room s' (at + 1)))
     (λ h. (omega arith, eqb-true len 3 (and_parts dep (eqb len 3) (and_parts (eqb c colon) (dep && eqb len 3) h).1).1))
     (λ _. tt))))
-room-kept (Asked cut) c at r = cond_both (eqb c slash) _ _ (Kept (λ s'. Room s' (at + 1))) (λ _. (omega arith, tt)) (λ _. tt)
-room-kept (Second link cut) c at r = cond_both (initial c) _ _ (Kept (λ s'. Room s' (at + 1))) (λ _. (omega arith, r.1)) (λ _. tt)
-room-kept (Last link cut len) c at r =
-    cond_both (inner c && ltb len longest) _ _ (Kept (λ s'. Room s' (at + 1))) (λ _. (omega arith, r.1)) (λ _. tt)
+room-kept (AfterQuestion first_len) c at r = cond_both (eqb c slash) _ _ (Kept (λ s'. Room s' (at + 1))) (λ _. (omega arith, tt)) (λ _. tt)
+room-kept (BeforeLast link first_len) c at r = cond_both (initial c) _ _ (Kept (λ s'. Room s' (at + 1))) (λ _. (omega arith, r.1)) (λ _. tt)
+room-kept (Last link first_len len) c at r =
+    cond_both (inner c && ltb len longest_name) _ _ (Kept (λ s'. Room s' (at + 1))) (λ _. (omega arith, r.1)) (λ _. tt)
 
 pub room-more : (s s' : State) (c at : ℕ) → step s c ≡ Some s' → Room s at → Room s' (at + 1)
 room-more s s' c at e r = subst (Kept (λ x. Room x (at + 1))) e (room-kept s c at r)
@@ -40,11 +40,11 @@ room-more s s' c at e r = subst (Kept (λ x. Room x (at + 1))) e (room-kept s c 
 -- A lawful string is accepted, as its form.
 
 -- a byte goes on with a name that has room
-goes : {A : Type 0} (b len : ℕ) (x y : A) → inner b ≡ true → len < longest → cond (inner b && ltb len longest) x y ≡ x
-goes b len x y i l = cond-true _ _ _ (and_from (inner b) (ltb len longest) i (lt-ltb len longest l))
+goes : {A : Type 0} (b len : ℕ) (x y : A) → inner b ≡ true → len < longest_name → cond (inner b && ltb len longest_name) x y ≡ x
+goes b len x y i l = cond-true _ _ _ (and_from (inner b) (ltb len longest_name) i (lt-ltb len longest_name l))
 
 -- bytes of the first name; what becomes of the flag does not matter
-first_run : (t : List ℕ) (len : ℕ) (dep : Bool) (at : ℕ) (bs rest : List ℕ) → Inner bs → len + length bs ≤ longest → (d : Bool) × (read_from step finish NoForm t (First len dep) at (bs ++ rest) ≡ read_from step finish NoForm t (First (len + length bs) d) (at + length bs) rest)
+first_run : (t : List ℕ) (len : ℕ) (dep : Bool) (at : ℕ) (bs rest : List ℕ) → Inner bs → len + length bs ≤ longest_name → (d : Bool) × (read_from step finish NoForm t (First len dep) at (bs ++ rest) ≡ read_from step finish NoForm t (First (len + length bs) d) (at + length bs) rest)
 first_run t len dep at [] rest i l =
     let e : len ≡ len + 0 = omega arith in
     let k : at ≡ at + 0 = omega arith in
@@ -72,22 +72,22 @@ start-run t (b ∷ bs) rest n =
     )
 
 -- the last name, to the string's end
-last-run : (t : List ℕ) (link : Link) (cut len at : ℕ) (bs : List ℕ) → Inner bs → len + length bs ≤ longest → read_from step finish NoForm t (Last link cut len) at bs ≡ finish (Last link cut 1) t
-last-run t link cut len at [] i l = same link
+last-run : (t : List ℕ) (link : Link) (first_len len at : ℕ) (bs : List ℕ) → Inner bs → len + length bs ≤ longest_name → read_from step finish NoForm t (Last link first_len len) at bs ≡ finish (Last link first_len 1) t
+last-run t link first_len len at [] i l = same link
   where
-    same : (k : Link) → finish (Last k cut len) t ≡ finish (Last k cut 1) t
+    same : (k : Link) → finish (Last k first_len len) t ≡ finish (Last k first_len 1) t
     same Switch = refl
     same Strong = refl
     same Weak = refl
-last-run t link cut len at (b ∷ bs) i l =
-    read_some step finish NoForm t (Last link cut len) (Last link cut (len + 1)) at b bs (goes b len _ _ i.0 (omega arith))
-    ∙ last-run t link cut (len + 1) (at + 1) bs i.1 (omega arith)
+last-run t link first_len len at (b ∷ bs) i l =
+    read_some step finish NoForm t (Last link first_len len) (Last link first_len (len + 1)) at b bs (goes b len _ _ i.0 (omega arith))
+    ∙ last-run t link first_len (len + 1) (at + 1) bs i.1 (omega arith)
 
-name-run : (t : List ℕ) (link : Link) (cut at : ℕ) (g : List ℕ) → Name g → read_from step finish NoForm t (Second link cut) at g ≡ finish (Last link cut 1) t
-name-run t link cut at [] n = absurd n
-name-run t link cut at (b ∷ bs) n =
-    read_some step finish NoForm t (Second link cut) (Last link cut 1) at b bs (cond-true _ _ _ n.0)
-    ∙ last-run t link cut 1 (at + 1) bs n.1 (omega arith)
+name-run : (t : List ℕ) (link : Link) (first_len at : ℕ) (g : List ℕ) → Name g → read_from step finish NoForm t (BeforeLast link first_len) at g ≡ finish (Last link first_len 1) t
+name-run t link first_len at [] n = absurd n
+name-run t link first_len at (b ∷ bs) n =
+    read_some step finish NoForm t (BeforeLast link first_len) (Last link first_len 1) at b bs (cond-true _ _ _ n.0)
+    ∙ last-run t link first_len 1 (at + 1) bs n.1 (omega arith)
 
 -- what stands after the first name and k bytes more
 pub accepts : (f : Form (List ℕ)) → Lawful f → read_form (spell f) ≡ Ok (placed f)
@@ -99,14 +99,14 @@ accepts (strong n g) l =
     let t : List ℕ = spell (strong n g) in
     let s = start-run t n (slash ∷ g) l.0 in
     s.1
-    ∙ read_some step finish NoForm t (First (length n) s.0) (Second Strong (length n)) (length n) slash g refl
+    ∙ read_some step finish NoForm t (First (length n) s.0) (BeforeLast Strong (length n)) (length n) slash g refl
     ∙ name-run t Strong (length n) (length n + 1) g l.1
     ∙ (λ i. Ok (strong (whole (take_at n (slash ∷ g) (length n) refl i)) (record { place = length n + 1; text = drop-append-add n (slash ∷ g) 1 i })))
 accepts (weak n g) l =
     let t : List ℕ = spell (weak n g) in
     let s = start-run t n (question ∷ slash ∷ g) l.0 in
     s.1
-    ∙ read_some step finish NoForm t (First (length n) s.0) (Asked (length n)) (length n) question (slash ∷ g) refl
-    ∙ read_some step finish NoForm t (Asked (length n)) (Second Weak (length n)) (length n + 1) slash g refl
+    ∙ read_some step finish NoForm t (First (length n) s.0) (AfterQuestion (length n)) (length n) question (slash ∷ g) refl
+    ∙ read_some step finish NoForm t (AfterQuestion (length n)) (BeforeLast Weak (length n)) (length n + 1) slash g refl
     ∙ name-run t Weak (length n) (length n + 1 + 1) g l.1
     ∙ (λ i. Ok (weak (whole (take_at n (question ∷ slash ∷ g) (length n) refl i)) (record { place = length n + 2; text = drop-append-add n (question ∷ slash ∷ g) 2 i })))

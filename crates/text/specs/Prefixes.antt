@@ -1,4 +1,4 @@
--- What a grammar says of the strings that begin as another does.
+-- Which strings begin some lawful string, and the longest such prefix of a string.
 -- A grammar is a type of meanings, which of them are lawful, and how each is spelled.
 use Rattle.std.specs.Prelude.{◌≡◌, ℕ, ◌<◌, ◌≤◌, List, ◌++◌, length, take}
 

@@ -5,14 +5,14 @@ use Rattle.text.specs.declared.faults.StringFault.TheVariants.{NoName, NoForm}
 use Rattle.text.specs.declared.strings.Link.{Link}
 use Rattle.text.specs.declared.strings.Link.TheVariants.{Switch, Strong, Weak}
 use Rattle.text.specs.declared.strings.State.{State}
-use Rattle.text.specs.declared.strings.State.TheVariants.{Start, First, Asked, Second, Last}
-use Rattle.text.specs.Names.{initial, inner, longest}
+use Rattle.text.specs.declared.strings.State.TheVariants.{Start, First, AfterQuestion, BeforeLast, Last}
+use Rattle.text.specs.Names.{initial, inner, longest_name}
 use Rattle.text.specs.Machines.{read_from}
 use Rattle.text.specs.Forms.{Form, plain, switch, strong, weak, Piece, whole}
 
 -- a name may have c at this place
 abbrev pub allowed : ℕ → ℕ → Bool
-allowed at c = cond (at == 0) (initial c) (inner c && nat_lt at longest)
+allowed at c = cond (at == 0) (initial c) (inner c && nat_lt at longest_name)
 
 -- the reader of names counts the bytes read
 abbrev pub name_step : ℕ → ℕ → Option ℕ
@@ -42,13 +42,13 @@ spelling dep len c = dep && ((len == 0 && c == 100) || ((len == 1 && c == 101) |
 abbrev pub step : State → ℕ → Option State
 step Start c = cond (initial c) (Some (First 1 (spelling true 0 c))) None
 step (First len dep) c =
-    cond (inner c && nat_lt len longest) (Some (First (len + 1) (spelling dep len c)))
-    (cond (c == slash) (Some (Second Strong len))
-    (cond (c == question) (Some (Asked len))
-    (cond (c == colon && (dep && len == 3)) (Some (Second Switch len)) None)))
-step (Asked cut) c = cond (c == slash) (Some (Second Weak cut)) None
-step (Second link cut) c = cond (initial c) (Some (Last link cut 1)) None
-step (Last link cut len) c = cond (inner c && nat_lt len longest) (Some (Last link cut (len + 1))) None
+    cond (inner c && nat_lt len longest_name) (Some (First (len + 1) (spelling dep len c)))
+    (cond (c == slash) (Some (BeforeLast Strong len))
+    (cond (c == question) (Some (AfterQuestion len))
+    (cond (c == colon && (dep && len == 3)) (Some (BeforeLast Switch len)) None)))
+step (AfterQuestion first_len) c = cond (c == slash) (Some (BeforeLast Weak first_len)) None
+step (BeforeLast link first_len) c = cond (initial c) (Some (Last link first_len 1)) None
+step (Last link first_len len) c = cond (inner c && nat_lt len longest_name) (Some (Last link first_len (len + 1))) None
 
 -- the piece of t from a place on, and the one before a place
 abbrev pub from : ℕ → List ℕ → Piece
@@ -61,11 +61,11 @@ upto at t = record { place = 0; text = take at t }
 abbrev pub finish : State → List ℕ → Result (Form Piece) StringFault
 finish Start t = Err (NoForm (length t))
 finish (First len dep) t = Ok (plain (whole t))
-finish (Asked cut) t = Err (NoForm (length t))
-finish (Second link cut) t = Err (NoForm (length t))
-finish (Last Switch cut len) t = Ok (switch (from 4 t))
-finish (Last Strong cut len) t = Ok (strong (upto cut t) (from (cut + 1) t))
-finish (Last Weak cut len) t = Ok (weak (upto cut t) (from (cut + 2) t))
+finish (AfterQuestion first_len) t = Err (NoForm (length t))
+finish (BeforeLast link first_len) t = Err (NoForm (length t))
+finish (Last Switch first_len len) t = Ok (switch (from 4 t))
+finish (Last Strong first_len len) t = Ok (strong (upto first_len t) (from (first_len + 1) t))
+finish (Last Weak first_len len) t = Ok (weak (upto first_len t) (from (first_len + 2) t))
 
 abbrev pub read_form : List ℕ → Result (Form Piece) StringFault
 read_form t = read_from step finish NoForm t Start 0 t
@@ -78,14 +78,14 @@ width Weak = 2
 
 -- a switch has the three letters of dep for its first name
 abbrev pub Letters : Link → ℕ → Type 0
-Letters Switch cut = cut ≡ 3
-Letters Strong cut = Unit {0}
-Letters Weak cut = Unit {0}
+Letters Switch first_len = first_len ≡ 3
+Letters Strong first_len = Unit {0}
+Letters Weak first_len = Unit {0}
 
 -- after `at` bytes the parts that a state tells of lie in them
 abbrev pub Room : State → ℕ → Type 0
 Room Start at = Unit {0}
 Room (First len dep) at = len ≤ at
-Room (Asked cut) at = cut + 1 ≤ at
-Room (Second link cut) at = (cut + width link ≤ at) × Letters link cut
-Room (Last link cut len) at = (cut + width link ≤ at) × Letters link cut
+Room (AfterQuestion first_len) at = first_len + 1 ≤ at
+Room (BeforeLast link first_len) at = (first_len + width link ≤ at) × Letters link first_len
+Room (Last link first_len len) at = (first_len + width link ≤ at) × Letters link first_len

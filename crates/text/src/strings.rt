@@ -24,9 +24,9 @@ enum State {
     // in the first name: how many bytes of it are read, and whether they begin the word dep
     First(usize, bool),
     // after the first name, which has so many bytes, and `?`
-    Asked(usize),
+    AfterQuestion(usize),
     // before the last name: the link, and how many bytes the first name has, or `dep`
-    Second(Link, usize),
+    BeforeLast(Link, usize),
     // in the last name: the same, and how many bytes of the last name are read
     Last(Link, usize, usize),
 }
@@ -51,14 +51,14 @@ fn next(state: State, c: char) -> Option<State>
             len + 1,
             spells_dep(dep, len, c),
         )),
-        (State::First(3, true), ':') => Some(State::Second(Link::Switch, 3)),
-        (State::First(len, _), '/') => Some(State::Second(Link::Strong, len)),
-        (State::First(len, _), '?') => Some(State::Asked(len)),
-        (State::Asked(cut), '/') => Some(State::Second(Link::Weak, cut)),
-        (State::Second(link, cut), initial!()) => Some(State::Last(link, cut, 1)),
-        (State::Last(link, cut, len @ 0..LONGEST_NAME), inner!()) => Some(State::Last(
+        (State::First(3, true), ':') => Some(State::BeforeLast(Link::Switch, 3)),
+        (State::First(len, _), '/') => Some(State::BeforeLast(Link::Strong, len)),
+        (State::First(len, _), '?') => Some(State::AfterQuestion(len)),
+        (State::AfterQuestion(first_len), '/') => Some(State::BeforeLast(Link::Weak, first_len)),
+        (State::BeforeLast(link, first_len), initial!()) => Some(State::Last(link, first_len, 1)),
+        (State::Last(link, first_len, len @ 0..LONGEST_NAME), inner!()) => Some(State::Last(
             link,
-            cut,
+            first_len,
             len + 1,
         )),
         _ => None,
@@ -108,27 +108,27 @@ fn ended<'a>(state: State, text: &'a [u8]) -> Result<FeatureString<'a>, StringFa
             let feature = Part { at: 0, bytes: text };
             Ok(FeatureString::Plain { feature })
         }
-        State::Last(Link::Switch, _cut, _len) => {
+        State::Last(Link::Switch, _first_len, _len) => {
             let dependency = part_switched(text);
             Ok(FeatureString::Switch { dependency })
         }
-        State::Last(Link::Strong, cut, _len) => {
-            let dependency = part_before(text, cut);
-            let feature = part_from(text, cut + 1);
+        State::Last(Link::Strong, first_len, _len) => {
+            let dependency = part_before(text, first_len);
+            let feature = part_from(text, first_len + 1);
             Ok(FeatureString::Strong {
                 dependency,
                 feature,
             })
         }
-        State::Last(Link::Weak, cut, _len) => {
-            let dependency = part_before(text, cut);
-            let feature = part_from(text, cut + 2);
+        State::Last(Link::Weak, first_len, _len) => {
+            let dependency = part_before(text, first_len);
+            let feature = part_from(text, first_len + 2);
             Ok(FeatureString::Weak {
                 dependency,
                 feature,
             })
         }
-        State::Start | State::Asked(_) | State::Second(_, _) => {
+        State::Start | State::AfterQuestion(_) | State::BeforeLast(_, _) => {
             let prefix = text.len();
             Err(StringFault::NoForm { prefix })
         }
