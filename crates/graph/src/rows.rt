@@ -16,8 +16,8 @@ pub const WIDTH: usize = 5;
 // The word that means none.
 const NONE: u32 = u32::MAX;
 
-// A row: with its premises `from` and `mate` active, `to` is to be. It is of a lane, or about no dependency. With
-// `cross` the conclusion is on the side where the lane leads.
+// A row: with its premises `from` and `mate` active, `to` is to be active. It is of a lane, or about no dependency.
+// With `cross` the conclusion is on the side where the lane leads.
 #[derive(Clone, Copy, PartialEq, Eq, Debug)]
 pub struct Row {
     pub from: u32,

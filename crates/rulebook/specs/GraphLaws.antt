@@ -4,6 +4,7 @@ use Rattle.std.proofs.Common.{sym, ap, ◌∙◌, subst, inl, inr, arith}
 use Rattle.std.proofs.Math.Arith.{digits_div}
 use Rattle.std.proofs.lemmas.Bool.{and_parts, leb-true, ltb-true}
 use Rattle.graph.specs.declared.rows.Row.{Row}
+use Rattle.graph.specs.Limits.{most_packages, most_dependencies, most_features, most_rule_rows, most_local_items, head_words, row_width}
 use Rattle.graph.specs.Rules.{row_from}
 use Rattle.policy.specs.declared.sides.Side.{Side}
 use Rattle.policy.specs.declared.sides.Side.TheVariants.{Target, Host}
@@ -17,27 +18,28 @@ use Rattle.rulebook.specs.GraphTable.{is_whole, local_count, row_count, row_with
 use Rattle.rulebook.specs.RuleLaws.{cond-some, Premise, Known, rule-laws}
 
 pub whole_parts : (ws : List ℕ) → is_whole ws ≡ true →
-    (slice_index ws 0 ≤ 4096) × (slice_index ws 1 ≤ 16384) × (slice_index ws 2 ≤ 16384) × (slice_index ws 3 ≤ 262144) × (4 + 5 * slice_index ws 3 ≤ length ws)
+    (slice_index ws 0 ≤ most_packages) × (slice_index ws 1 ≤ most_dependencies) × (slice_index ws 2 ≤ most_features) × (slice_index ws 3 ≤ most_rule_rows)
+    × (head_words + row_width * slice_index ws 3 ≤ length ws)
 whole_parts ws h =
-    let a = and_parts (nat_le 4 (length ws)) _ h in
-    let b = and_parts (nat_le (slice_index ws 0) 4096) _ a.1 in
-    let c = and_parts (nat_le (slice_index ws 1) 16384) _ b.1 in
-    let d = and_parts (nat_le (slice_index ws 2) 16384) _ c.1 in
-    let e = and_parts (nat_le (slice_index ws 3) 262144) (nat_le (4 + 5 * slice_index ws 3) (length ws)) d.1 in
+    let a = and_parts (nat_le head_words (length ws)) _ h in
+    let b = and_parts (nat_le (slice_index ws 0) most_packages) _ a.1 in
+    let c = and_parts (nat_le (slice_index ws 1) most_dependencies) _ b.1 in
+    let d = and_parts (nat_le (slice_index ws 2) most_features) _ c.1 in
+    let e = and_parts (nat_le (slice_index ws 3) most_rule_rows) (nat_le (head_words + row_width * slice_index ws 3) (length ws)) d.1 in
     (leb-true _ _ b.0, leb-true _ _ c.0, leb-true _ _ d.0, leb-true _ _ e.0, leb-true _ _ e.1)
 
-pub local-small : (ws : List ℕ) → local_count ws ≤ 36864
+pub local-small : (ws : List ℕ) → local_count ws ≤ most_local_items
 local-small ws = go (is_whole ws) refl
   where
-    go : (b : Bool) → is_whole ws ≡ b → cond b (slice_index ws 0 + slice_index ws 1 + slice_index ws 2) 0 ≤ 36864
+    go : (b : Bool) → is_whole ws ≡ b → cond b (slice_index ws 0 + slice_index ws 1 + slice_index ws 2) 0 ≤ most_local_items
     go true h = let p = whole_parts ws h in omega arith
     go false h = omega arith
 
 -- a row that counts has its words
-pub row_fits : (ws : List ℕ) → (row_count ws ≤ 262144) × ((r : ℕ) → r < row_count ws → 4 + 5 * r + 5 ≤ length ws)
+pub row_fits : (ws : List ℕ) → (row_count ws ≤ most_rule_rows) × ((r : ℕ) → r < row_count ws → (head_words + row_width * r) + row_width ≤ length ws)
 row_fits ws = go (is_whole ws) refl
   where
-    go : (b : Bool) → is_whole ws ≡ b → let n = cond b (slice_index ws 3) 0 in (n ≤ 262144) × ((r : ℕ) → r < n → 4 + 5 * r + 5 ≤ length ws)
+    go : (b : Bool) → is_whole ws ≡ b → let n = cond b (slice_index ws 3) 0 in (n ≤ most_rule_rows) × ((r : ℕ) → r < n → (head_words + row_width * r) + row_width ≤ length ws)
     go true h = let p = whole_parts ws h in (p.3, λ r l. omega arith)
     go false h = (omega arith, λ r l. absurd (omega arith))
 

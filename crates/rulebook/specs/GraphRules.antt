@@ -25,8 +25,8 @@ number_on g s x = item_on (item_count g) s (number g x)
 abbrev pub Leads : Answers → Side → Rule → Side → Type 0
 Leads answers s ρ goal = landing s ρ.cross (row_lead answers s ρ.lane) ≡ Some goal
 
--- item i watches the entry e of a rule that stands, and leads from a side to a side: i is one of its premises, the
--- partner is the other, if there is one, and the conclusion is the rule's
+-- e is the entry that item i has of a rule that stands, and that is not cut on the side of its premises: i is one of
+-- these, the partner is the other, if there is one, and the conclusion is the rule's
 pub record Watched (answers : Answers) (g : Graph) (i : ℕ) (e : Entry) : Type 0 where
   pub side : Side
   pub goal : Side

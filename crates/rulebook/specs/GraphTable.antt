@@ -1,7 +1,7 @@
 -- What a graph book means: the rules of graph words on each side, where a policy lets them lead.
 use Rattle.std.specs.Prelude.{ℕ, ◌+◌, ◌*◌, ◌/◌, Bool, true, false, cond, ◌&&◌, List, length, take, drop, Some, None, Option, nat_le, nat_lt, slice_index, option_map}
 use Rattle.graph.specs.declared.rows.Row.{Row}
-use Rattle.graph.specs.Limits.{most_packages, most_dependencies, most_features, most_rule_rows}
+use Rattle.graph.specs.Limits.{most_packages, most_dependencies, most_features, most_rule_rows, head_words, row_width}
 use Rattle.graph.specs.Rules.{row_from}
 use Rattle.records.specs.declared.lanes.Lane.{Lane}
 use Rattle.policy.specs.declared.sides.Side.{Side}
@@ -14,8 +14,8 @@ use Rattle.rulebook.specs.Watch.{in_range, rule_table}
 -- the words begin with counts within their limits, and with as many rows as they say
 abbrev pub is_whole : List ℕ → Bool
 is_whole ws =
-    nat_le 4 (length ws) && (nat_le (slice_index ws 0) most_packages && (nat_le (slice_index ws 1) most_dependencies && (nat_le (slice_index ws 2) most_features
-    && (nat_le (slice_index ws 3) most_rule_rows && nat_le (4 + 5 * slice_index ws 3) (length ws)))))
+    nat_le head_words (length ws) && (nat_le (slice_index ws 0) most_packages && (nat_le (slice_index ws 1) most_dependencies && (nat_le (slice_index ws 2) most_features
+    && (nat_le (slice_index ws 3) most_rule_rows && nat_le (head_words + row_width * slice_index ws 3) (length ws)))))
 
 -- how many local items and rows there are; words that are not whole read as a graph without any
 abbrev pub local_count : List ℕ → ℕ
@@ -31,7 +31,7 @@ row_within n (Some row) = cond (in_range n row.from row.mate row.to) (Some row) 
 
 -- the row of the words of row r, with n items
 abbrev pub row_read : ℕ → List ℕ → ℕ → Option Row
-row_read n ws r = row_within n (row_from (take 5 (drop (4 + 5 * r) ws)))
+row_read n ws r = row_within n (row_from (take row_width (drop (head_words + row_width * r) ws)))
 
 abbrev pub row_in : ℕ → ℕ → List ℕ → ℕ → Option Row
 row_in n count ws r = cond (nat_lt r count) (row_read n ws r) None

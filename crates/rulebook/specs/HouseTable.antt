@@ -9,15 +9,19 @@ use Rattle.rulebook.specs.Watch.{in_range, rule_table}
 abbrev pub count_of : ℕ → ℕ
 count_of n = cond (nat_le n most_items) n 0
 
--- three words a row: from, with, to; only so many rows count
+-- the words of a row, and the most rows that count
+abbrev pub house_width : ℕ
+house_width = 3
+
 abbrev pub most_house_rows : ℕ
 most_house_rows = 4096
 
 abbrev pub house_rows : List ℕ → ℕ
-house_rows ws = min (length ws / 3) most_house_rows
+house_rows ws = min (length ws / house_width) most_house_rows
 
+-- the rule of row r: from, with, to
 abbrev pub house_row : List ℕ → ℕ → ItemRule
-house_row ws r = record { from = slice_index ws (3 * r); mate = mate_of (slice_index ws (3 * r + 1)); to = slice_index ws (3 * r + 2) }
+house_row ws r = record { from = slice_index ws (house_width * r); mate = mate_of (slice_index ws (house_width * r + 1)); to = slice_index ws (house_width * r + 2) }
 
 -- a row out of range gives no rule
 abbrev pub rule_within : ℕ → ItemRule → Option ItemRule

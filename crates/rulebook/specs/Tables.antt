@@ -11,7 +11,7 @@ abbrev pub most_rows : ℕ
 most_rows = 4194304
 
 -- how many items and rows there are, and the watch entry of an item in a row, if there is one; an entry is a rule: with
--- the item and the partner, if any, active, the conclusion is to be
+-- the item and the partner, if any, active, the conclusion is to be active
 pub record Table : Type 0 where
   pub items : ℕ
   pub rows : ℕ

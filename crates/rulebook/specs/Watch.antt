@@ -4,6 +4,7 @@ use Rattle.rulebook.specs.declared.entries.ItemRule.{ItemRule}
 use Rattle.rulebook.specs.declared.entries.Entry.{Entry}
 use Rattle.rulebook.specs.Tables.{Table, pair}
 
+-- the item, if there is one, is i
 abbrev pub is_item : Option ℕ → ℕ → Bool
 is_item None i = false
 is_item (Some j) i = j == i
@@ -19,11 +20,12 @@ abbrev pub entry_in : Option ItemRule → ℕ → Option Entry
 entry_in None i = None
 entry_in (Some ρ) i = watched ρ i
 
--- the items of a row are below a count
+-- an item, if there is one, is below a count
 abbrev pub is_below : ℕ → Option ℕ → Bool
 is_below n None = true
 is_below n (Some i) = nat_lt i n
 
+-- the items of a row are below a count
 abbrev pub in_range : ℕ → ℕ → Option ℕ → ℕ → Bool
 in_range n from mate to = nat_lt from n && (nat_lt to n && is_below n mate)
 

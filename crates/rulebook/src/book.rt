@@ -4,6 +4,9 @@ ghost use Rattle.rulebook.specs.Tables.{Table, Laws, seek};
 
 use crate::entries::Found;
 
+// The most items of a rulebook.
+pub const MOST_ITEMS: u32 = 73_728;
+
 // A rulebook is a table of watch entries that keeps the laws of tables.
 pub trait Rulebook {
     ghost table: { Self → Table };

@@ -2,8 +2,8 @@
 ghost use Rattle.std.specs.Prelude.{◌≡◌};
 ghost use Rattle.rulebook.specs.Watch.{watched, in_range};
 
-// A rule: with `from` and `mate`, if there is one, active, `to` is to be. They are item numbers, of a book
-// or, while a row is tested, of its words; a row has a lane and `cross` too, so that the two share no type.
+// A rule: with `from` and `mate`, if there is one, active, `to` is to be active. They are item numbers, of a book or,
+// while a row is tested, of its words.
 #[derive(Clone, Copy, PartialEq, Eq, Debug)]
 pub struct ItemRule {
     pub from: u32,

@@ -1,19 +1,16 @@
 // The house book: rules between items, written by hand.
 ghost use Rattle.std.specs.Prelude.{◌≡◌, ℕ, ◌*◌, ◌<◌, [], length, take, drop, slice_index_or};
-ghost use Rattle.rulebook.specs.HouseTable.{count_of, house_rows, house_rule, house_table};
+ghost use Rattle.rulebook.specs.HouseTable.{house_width, count_of, house_rows, house_rule, house_table};
 ghost use Rattle.std.proofs.Common.{rules};
 
-use crate::book::Rulebook;
+use crate::book::{MOST_ITEMS, Rulebook};
 use crate::entries::{Found, ItemRule};
 use crate::rule_rows::{RuleRows, first_entry};
 use crate::words::Words;
 use graph::rows::mate_of;
 
-// The most items of a rulebook.
-pub const MOST_ITEMS: u32 = 73_728;
-
 // The most rows that count, and the words of one.
-const MOST_ROWS: usize = 4_096;
+const MOST_HOUSE_ROWS: usize = 4_096;
 
 const WIDTH: usize = 3;
 
@@ -27,10 +24,10 @@ pub struct HouseBook<W> {
 // The whole rows of the words, up to the limit.
 fn rows(words: &[u32]) -> &[[u32; WIDTH]]
     ensures len { length result.now ≡ house_rows words.now }
-    ensures each { (r : ℕ) → r < length result.now → slice_index_or result.now r [] ≡ take 3 (drop (3 * r) words.now) }
+    ensures each { (r : ℕ) → r < length result.now → slice_index_or result.now r [] ≡ take house_width (drop (house_width * r) words.now) }
 {
     let (rows, _) = words.as_chunks();
-    &rows[..rows.len().min(MOST_ROWS)]
+    &rows[..rows.len().min(MOST_HOUSE_ROWS)]
 }
 
 impl<W: Words> HouseBook<W> {

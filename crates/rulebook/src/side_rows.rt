@@ -1,5 +1,6 @@
 // The rows of graph words, as rules between the items of one side.
 ghost use Rattle.std.specs.Prelude.{◌≡◌, ◌+◌, ◌*◌, ◌<◌, ◌≤◌, true, length, Some};
+ghost use Rattle.graph.specs.Limits.{most_rule_rows, most_local_items, head_words, row_width};
 ghost use Rattle.policy.specs.Answers.{told_by};
 ghost use Rattle.rulebook.specs.GraphTable.{is_whole, local_count, row_count, row_read, row_in, row_lead, landing, item_on, rule_to, rule_on};
 ghost use Rattle.rulebook.specs.Watch.{in_range};
@@ -45,7 +46,7 @@ pub(crate) fn row_count(words: &[u32]) -> u32
 
 // The row, if its words are in range. One row is looked at, so its place is counted and not cut with all others.
 fn read_row(words: &[u32], count: u32, row: u32) -> Option<Row>
-    requires { (row < 262144) × (4 + 5 * row + 5 ≤ length words.now) }
+    requires { (row < most_rule_rows) × ((head_words + row_width * row) + row_width ≤ length words.now) }
     ensures { result ≡ row_read count words.now row }
 {
     let words = words[HEAD + WIDTH * row as usize..].first_chunk()?;
@@ -63,7 +64,7 @@ fn landing_side(side: Side, cross: bool, lead: Option<Side>) -> Option<Side>
 
 // The number of a local item on a side.
 fn item_on(count: u32, side: Side, item: u32) -> u32
-    requires { (count ≤ 36864) × (item < count) }
+    requires { (count ≤ most_local_items) × (item < count) }
     ensures { result ≡ item_on count side item }
 {
     u32::from(side) * count + item

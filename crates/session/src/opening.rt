@@ -6,7 +6,7 @@ ghost use Rattle.session.specs.States.{check_opening, opened};
 use crate::calls::SessionFault;
 use crate::session::Session;
 use crate::trail::{Trail, TrailRecord};
-use rulebook::house_book::MOST_ITEMS;
+use rulebook::book::MOST_ITEMS;
 
 impl<'a> Session<'a> {
     // Whether a session of so many items can be opened in such memory: it takes one trail place and one mark for each.
