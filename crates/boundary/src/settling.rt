@@ -9,7 +9,7 @@ use rulebook::book::Rulebook;
 use rulebook::graph_book::GraphBook;
 use session::calls::{Outcome, SessionFault};
 use session::session::Session;
-use session::trail::TrailRecord;
+use session::trail::{TrailRecord, UNUSED};
 use std::alloc::{AllocError, Global};
 
 // The answer of settling where there is no memory for a session.
@@ -69,12 +69,7 @@ fn settle_graph(
 {
     let book = GraphBook::new(words, &HostSplit);
     let items = book.items();
-    let blank = TrailRecord {
-        item: 0,
-        first: None,
-        second: None,
-    };
-    let mut places = vec![in heap; blank; items as usize]?;
+    let mut places = vec![in heap; UNUSED; items as usize]?;
     let mut marks = vec![in heap; None; items as usize]?;
     let mut session = Session::new(items, places.as_mut_slice(), marks.as_mut_slice());
     let answer = request_and_settle(&mut session, &book, requests, budget);

@@ -13,7 +13,7 @@ use rulebook::book::Rulebook;
 use rulebook::graph_book::GraphBook;
 use session::calls::{Answer, Call, Outcome, Reason, SessionFault};
 use session::session::Session;
-use session::trail::TrailRecord;
+use session::trail::UNUSED;
 use std::alloc::Global;
 use std::io::Write;
 
@@ -147,12 +147,7 @@ pub fn print_resolved(
 ) -> anyhow::Result<()> {
     let book = GraphBook::new(graph.words.as_slice(), &HostSplit);
     let count = book.items();
-    let blank = TrailRecord {
-        item: 0,
-        first: None,
-        second: None,
-    };
-    let mut places = vec![in heap; blank; count as usize]?;
+    let mut places = vec![in heap; UNUSED; count as usize]?;
     let mut marks = vec![in heap; None; count as usize]?;
     let mut session = Session::new(count, places.as_mut_slice(), marks.as_mut_slice());
     print_session(out, &mut session, &book, items)

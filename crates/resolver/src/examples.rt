@@ -15,7 +15,7 @@ use rulebook::book::Rulebook;
 use rulebook::graph_book::GraphBook;
 use session::calls::{Outcome, Reason, SessionFault};
 use session::session::Session;
-use session::trail::TrailRecord;
+use session::trail::UNUSED;
 
 // What opening the example file answers.
 const OPENED: Opened = Opened {
@@ -47,13 +47,6 @@ const COURSE: Course = Course {
     count: 5,
     nearly: Ok(Outcome::Pending),
     settled: Ok(Outcome::Settled(1)),
-};
-
-// A trail place that is not written yet.
-const UNUSED: TrailRecord = TrailRecord {
-    item: 0,
-    first: None,
-    second: None,
 };
 
 // What made an item active: these trail numbers.

@@ -11,6 +11,13 @@ pub struct TrailRecord {
     pub second: Option<u32>,
 }
 
+// What a trail place may hold before it is written.
+pub const UNUSED: TrailRecord = TrailRecord {
+    item: 0,
+    first: None,
+    second: None,
+};
+
 // The first `len` places hold the records, and the mark of an item its trail number, or none. It is a type of its own
 // since `push` writes all three before they agree again.
 #[derive(Drop)]

@@ -5,7 +5,7 @@ use resolver::replays::replay;
 use rulebook::book::Rulebook;
 use session::calls::{Answer, Call};
 use session::session::Session;
-use session::trail::TrailRecord;
+use session::trail::{TrailRecord, UNUSED};
 use std::alloc::{AllocError, Global};
 
 // An opened file.
@@ -41,12 +41,7 @@ pub fn make_calls<B: Rulebook>(
     calls: &[Call<'_>],
 ) -> Result<Replayed, AllocError> {
     let count = book.items();
-    let blank = TrailRecord {
-        item: 0,
-        first: None,
-        second: None,
-    };
-    let mut places = vec![in heap; blank; count as usize]?;
+    let mut places = vec![in heap; UNUSED; count as usize]?;
     let mut marks = vec![in heap; None; count as usize]?;
     let mut answers = vec![in heap; Answer::Active(Ok(false)); calls.len()]?;
     let mut session = Session::new(count, places.as_mut_slice(), marks.as_mut_slice());
