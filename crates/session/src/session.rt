@@ -1,5 +1,6 @@
 // A session over lent memory.
 ghost use Rattle.std.specs.Prelude.{◌≤◌, length, take};
+ghost use Rattle.rulebook.specs.Tables.{most_items};
 ghost use Rattle.session.specs.Trails.{Below, Apart, Marked, FirstOlder, SecondOlder};
 
 use crate::trail::Trail;
@@ -12,7 +13,7 @@ pub struct Session<'a> {
     pub(crate) trail: Trail<'a>,
     pub(crate) place: u32,
     pub(crate) row: u32,
-    ghost few: { items ≤ 73728 },
+    ghost few: { items ≤ most_items },
     ghost places: { items ≤ length trail.places.now },
     ghost marks: { items ≤ length trail.marks.now },
     ghost held: { trail.len ≤ length trail.places.now },
