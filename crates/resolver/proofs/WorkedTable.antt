@@ -1,5 +1,5 @@
 -- The worked examples, over the definitions.
-use Rattle.std.proofs.Common.{◌≡◌, ℕ, List, ◌++◌, length, drop, Ok, Result, refl, sym, ap, ◌∙◌, arith}
+use Rattle.std.proofs.Common.{◌≡◌, ℕ, List, ◌++◌, length, drop, Ok, Result, refl, sym, ap, ◌∙◌, lit<, arith}
 use Rattle.std.proofs.lemmas.List.{append-nil}
 use Rattle.std.proofs.Math.Seq.{drop-length}
 use Rattle.records.specs.Encoding.{encode}
@@ -8,6 +8,7 @@ use Rattle.graph.specs.declared.rows.Opened.{Opened}
 use Rattle.graph.specs.Examples.{example, example_opened, example_words}
 use Rattle.graph.specs.Opening.{over, leaving, open_graph}
 use Rattle.rulebook.specs.Tables.{Table}
+use Rattle.session.specs.Causes.{by_two}
 use Rattle.session.specs.States.{State, settle_run, request_leaves, settle_answer, settle_leaves}
 use Rattle.graph.proofs.Worked.{examples}
 use Rattle.resolver.specs.WorkedExamples.{example_table, new_session, example_items, example_asked, WorkedExamples}
@@ -32,6 +33,7 @@ worked-examples = record {
   steps = refl;
   entries = refl;
   done = refl;
+  because = by_two {row = 5} (lit< tt) (lit< tt) refl;
   refused = refl;
   again = refl;
   beyond = refl;

@@ -12,6 +12,7 @@ use Rattle.session.specs.declared.calls.SessionFault.TheVariants.{Item}
 use Rattle.session.specs.declared.calls.Outcome.TheVariants.{Settled, Pending}
 use Rattle.session.specs.declared.calls.Answer.{Answer}
 use Rattle.session.specs.declared.calls.Answer.TheVariants as answer
+use Rattle.session.specs.Causes.{Because}
 use Rattle.session.specs.Refusals.{session_refusal}
 use Rattle.session.specs.States.{State, opened, requested, settle_run, request_answer, settle_answer}
 use Rattle.session.specs.Histories.{Call, request, settle, answers_from, History, history}
@@ -96,6 +97,8 @@ pub record WorkedExamples : Type 0 where
   pub steps : example_history.steps ≡ 11
   pub entries : watch_entries example_table example_history.state ≡ 11
   pub done : example_history.settled ≡ true
+  -- item 8 has trail number 6 since item 7, with trail number 3, has an entry with the partner 3, which has trail number 5
+  pub because : Because example_table example_trail example_items 6 (joined 8 3 5)
   -- a request that is refused gives nothing; one that is accepted, also of no items, is to be settled again
   pub refused : (history example_table 20 (request (0 ∷ 20 ∷ []) ∷ [])).accepted ≡ []
   pub again : (history example_table 20 (example_calls ++ request [] ∷ [])).settled ≡ false

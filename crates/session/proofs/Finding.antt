@@ -1,9 +1,10 @@
 -- What the trail number of an item tells.
 use Rattle.std.proofs.Common.{◌≡◌, ℕ, ◌+◌, ◌<◌, ◌≤◌, Bool, true, false, cond, ◌||◌, eqb, List, [], ◌∷◌, length, is_some, take, Some, None, Option, refl, ◌∙◌, arith}
+use Rattle.std.specs.Prelude.{IfSome}
 use Rattle.std.proofs.lemmas.Option.{none-some, same_Some}
 use Rattle.std.proofs.lemmas.List.{length-take-le}
 use Rattle.session.specs.declared.trail.TrailRecord.{TrailRecord}
-use Rattle.session.specs.Trails.{active, later, find, cause_of, Older}
+use Rattle.session.specs.Trails.{active, later, find, cause_of}
 
 is-some-later : (o : Option ℕ) → is_some (later o) ≡ is_some o
 is-some-later None = refl
@@ -27,6 +28,10 @@ found-within (r ∷ t) i k e = go (eqb r.item i) (find t i) (found-within t i) e
     go true o h q = let z : 0 ≡ k = same_Some 0 k q in omega arith
     go false None h q = absurd (none-some k q)
     go false (Some j) h q = let z : j + 1 ≡ k = same_Some (j + 1) k q in omega (arith, h j refl)
+
+-- a cause, if there is one, is older than trail number k
+abbrev pub Older : ℕ → Option ℕ → Type 0
+Older k o = IfSome o (λ c. c < k)
 
 -- a cause is older than the next record
 pub cause-older : (places : List TrailRecord) (len : ℕ) → len ≤ length places → (b : Option ℕ) → Older len (cause_of (take len places) b)

@@ -3,7 +3,8 @@ use Rattle.std.proofs.Common.{◌≡◌, ℕ, ◌+◌, ◌<◌, ◌≤◌, false
 use Rattle.std.proofs.lemmas.List.{length-take-le, length-set, take_more_set, drop-set-lt, get_or-set_same, get_or-set_other}
 use Rattle.std.proofs.lemmas.Bool.{cond-true, cond-false, eq-eqb, ne_eqb, cases_eq}
 use Rattle.session.specs.declared.trail.TrailRecord.{TrailRecord}
-use Rattle.session.specs.Trails.{active, find, Below, Apart, Marked, FirstOlder, SecondOlder, Older}
+use Rattle.session.specs.Trails.{active, find, Below, Apart, Marked, FirstOlder, SecondOlder}
+use Rattle.session.proofs.Finding.{Older}
 use Rattle.session.proofs.TrailEnds.{find-more, more-below, more-apart, more-first, more-second, room}
 
 module _ (n : ℕ) (places : List TrailRecord) (len : ℕ) (held : len ≤ length places) (x : TrailRecord) (low : x.item < n) (off : active (take len places) x.item ≡ false) where

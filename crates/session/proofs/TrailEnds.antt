@@ -7,7 +7,8 @@ use Rattle.std.proofs.lemmas.List.Folds.{Any-from_list_any}
 use Rattle.std.proofs.lemmas.Map.Keys.{IsDistinct-from_apart}
 use Rattle.std.proofs.lemmas.Map.Steps.{length-le_from_distinct_below}
 use Rattle.session.specs.declared.trail.TrailRecord.{TrailRecord}
-use Rattle.session.specs.Trails.{active, later, find, blank, Below, Apart, FirstOlder, SecondOlder, Older}
+use Rattle.session.specs.Trails.{active, later, find, blank, Below, Apart, FirstOlder, SecondOlder}
+use Rattle.session.proofs.Finding.{Older}
 
 -- a record of a trail on which an item is not active is of another item
 pub other-item : (t : List TrailRecord) (i k : ℕ) → active t i ≡ false → k < length t → (get_or t k blank).item ≡ i → ⊥

@@ -9,6 +9,7 @@ use Rattle.session.specs.declared.calls.Answer.{Answer}
 use Rattle.session.specs.declared.calls.Answer.TheVariants as answer
 use Rattle.session.specs.States.{State, empty, request_answer, request_leaves, settle_answer, settle_leaves, active_answer, reason_answer}
 
+-- a call, with its items, its budget or its item
 pub data Call : Type 0 where
   request : List ℕ → Call
   settle : ℕ → Call

@@ -41,11 +41,6 @@ Apart t = (j k : ℕ) → j < k → k < length t → (slice_index_or t j blank).
 abbrev pub Marked : ℕ → List TrailRecord → List (Option ℕ) → Type 0
 Marked n t marks = (i : ℕ) → i < n → slice_index_or marks i None ≡ find t i
 
--- a cause, if there is one, is older than trail number k
-abbrev pub Older : ℕ → Option ℕ → Type 0
-Older k None = Unit {0}
-Older k (Some c) = c < k
-
 -- causes are older than what they caused
 abbrev pub FirstOlder : List TrailRecord → Type 0
 FirstOlder t = (k c : ℕ) → k < length t → (slice_index_or t k blank).first ≡ Some c → c < k

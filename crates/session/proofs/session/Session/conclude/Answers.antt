@@ -1,6 +1,5 @@
 use Rattle.std.proofs.Common.{sym, subst}
-use Rattle.session.specs.Trails.{Older}
-use Rattle.session.proofs.Finding.{cause-older}
+use Rattle.session.proofs.Finding.{Older, cause-older}
 use Rattle.session.proofs.session.Session.conclude.Goals as goal
 
 pub join-requires-clause-older : goal.join-requires-clause-older
