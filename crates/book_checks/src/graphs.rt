@@ -1,10 +1,10 @@
 // Graph books, compared under each policy.
 use crate::asks::Asks;
+use crate::books::BookTally;
 use crate::draws::{draw_damaged, draw_graph};
 use crate::plain::NONE;
 use crate::readings::{Manner, graph_book};
 use crate::sheets::{HOST_SPLIT, HOST_SPLIT_NO_DEV, Sheet, UNIFIED, UNIFIED_NO_DEV};
-use crate::books::BookTally;
 use dice::Dice;
 use policy::answers::Policy;
 use policy::dev_cut::DevCut;

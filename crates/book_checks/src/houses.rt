@@ -1,9 +1,9 @@
 // House books, compared with plain ones.
 use crate::asks::Asks;
+use crate::books::BookTally;
 use crate::draws::draw_house;
 use crate::plain::NONE;
 use crate::readings::house_book;
-use crate::books::BookTally;
 use dice::Dice;
 use rulebook::house_book::HouseBook;
 use std::alloc::{AllocError, Global};

@@ -1,9 +1,9 @@
 // Mistakes that are easily made in a graph book, to see that the comparison would find them.
 use crate::asks::Asks;
+use crate::books::BookTally;
 use crate::draws::draw_graph;
 use crate::readings::{Manner, graph_book};
 use crate::sheets::{HOST_LEAKS, HOST_SPLIT, HOST_SPLIT_NO_DEV, Sheet};
-use crate::books::BookTally;
 use dice::Dice;
 use policy::answers::Policy;
 use policy::dev_cut::DevCut;

@@ -21,11 +21,7 @@ const END_PLACE: usize = 6;
 const DEPENDENCY_NAME: usize = 12;
 
 // Whether all of some strings, which begin at a place of their record, are known.
-fn all_known<F: Fn(&[u8]) -> bool>(
-    strings: Strings,
-    at: usize,
-    known: F,
-) -> Result<(), RecordFault>
+fn all_known<F: Fn(&[u8]) -> bool>(strings: Strings, at: usize, known: F) -> Result<(), RecordFault>
     requires callable { F.IsAlwaysCallable known }
     requires small { at < 2 ^ 63 + 256 }
     ensures { (test : List ℕ → Bool) → KnowsAs (F.post known) test → result ≡ all_known test length at (texts strings.entry) }
@@ -71,7 +67,10 @@ impl<'a> Filled<'a> {
 
     // Puts a question to each record, with the number of its package. A fault gets the number and the start of its
     // record: the header, the packages up to the owner and `j` parts are before it.
-    fn check<F: Fn(u32, Owned<'a>) -> Result<(), RecordFault>>(&self, known: F) -> Result<(), InRecord>
+    fn check<F: Fn(u32, Owned<'a>) -> Result<(), RecordFault>>(
+        &self,
+        known: F,
+    ) -> Result<(), InRecord>
         requires { F.IsAlwaysCallable known }
         ensures { (test : ℕ → Part → Result (Unit {0}) RecordFault) → AnswersAs (F.post known) test → result ≡ checked (λ x. test x.owner x.part) (placed (its self.now)) }
     {
