@@ -31,7 +31,7 @@ def summaries(log):
     found, crate = {}, None
     for line in log.splitlines():
         if line.startswith("== "):
-            crate = line[3:].split()[0]
+            crate = line[3:].split()[0].rstrip(":")
         summary = re.search(r"\bfunctions=(\d+)", line)
         if summary and crate:
             axioms = re.search(r"\baxioms=(\d+)", line)
