@@ -1,5 +1,5 @@
 -- What is told of a session that was settled are the items of the least set.
-use Rattle.std.proofs.Common.{◌≡◌, ℕ, ◌+◌, ◌≤◌, Bool, true, false, cond, ◌&&◌, ◌||◌, T, eqb, leb, List, [], ◌∷◌, ◌++◌, map, length, take, drop, Ok, Err, Result, sym, refl, ap, ◌∙◌, subst, inl, inr, arith, eqb→eq, append-nil}
+use Rattle.std.proofs.Common.{◌≡◌, ℕ, ◌+◌, Bool, true, false, cond, ◌||◌, T, eqb, leb, List, [], ◌∷◌, ◌++◌, length, take, drop, Ok, Err, Result, sym, refl, ap, ◌∙◌, subst, inl, inr, arith, eqb→eq, append-nil}
 use lib.Dec.{eqb_refl}
 use Rattle.std.proofs.lemmas.Bool.{cond-true, and_from, le-leb}
 use Rattle.std.proofs.lemmas.List.{take_at}
@@ -15,9 +15,8 @@ use Rattle.session.specs.declared.calls.Answer.TheVariants as answer
 use Rattle.session.specs.declared.trail.TrailRecord.{TrailRecord}
 use Rattle.session.specs.Least.{OneOf, Least}
 use Rattle.session.specs.Trails.{active}
-use Rattle.session.specs.States.{State, empty, opened, items_after, request_answer, request_leaves, settle_answer, settle_leaves}
+use Rattle.session.specs.States.{State, empty, opened, items_after, request_answer, request_leaves, settle_answer}
 use Rattle.session.specs.Histories.{Call, request, settle, accepted_by, settled_by, History, history}
-use Rattle.session.specs.SessionLaw.{Active, SessionLaw}
 use Rattle.session.proofs.LawHolds.{session-law}
 use Rattle.boundary.specs.Numbers.{items_of, told_in, settled_number, unless_refused, number_of, graph_settled}
 use Rattle.boundary.specs.SettleLaw.{SettleLaw}
