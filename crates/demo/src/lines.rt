@@ -1,6 +1,7 @@
 // The lines that are printed of a graph file.
 ghost use Rattle.std.specs.Prelude.{◌≡◌};
-ghost use Rattle.demo.specs.Lines.{premise, place};
+ghost use Rattle.demo.specs.Lines.{place};
+ghost use Rattle.graph.specs.Rules.{mate_of};
 
 use graph::refusals::Refusal;
 use graph::rows::{Opened, mate_of};
@@ -39,7 +40,7 @@ pub struct Mate {
 }
 
 impl From<u32> for Mate {
-    ghost from_gives = { λ word mate. mate.item ≡ premise word };
+    ghost from_gives = { λ word mate. mate.item ≡ mate_of word };
 
     // Of the second word of a row.
     fn from(word: u32) -> Mate {

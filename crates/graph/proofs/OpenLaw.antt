@@ -1,5 +1,5 @@
 -- Opening accepts exactly the files that say a lawful graph whose references are resolved.
-use Rattle.std.proofs.Common.{◌≡◌, ℕ, ◌+◌, ◌*◌, Bool, true, false, cond, ltb, List, length, Ok, Err, Result, sym, refl, ap, ◌∙◌, subst}
+use Rattle.std.proofs.Common.{◌≡◌, ℕ, ◌+◌, ◌*◌, ◌≤◌, Bool, true, false, cond, ltb, List, length, Ok, Err, Result, sym, refl, ap, ◌∙◌, subst}
 use Rattle.std.proofs.lemmas.Bool.{cond-false, ltb-true, ltb-false, le-ltb}
 use Rattle.records.proofs.Numbers.{not-both, in-ok, in-err}
 use Rattle.records.specs.declared.faults.RecordFault.{RecordFault}
@@ -79,22 +79,22 @@ module _ (file words : List ℕ) where
       go (Unknown k) b = absurd b
       go Many b = n
 
-  says-none : (e : FileFault) → first_reading file ≡ Err e → SaysNone file
-  says-none e h g s = not-both (sym h ∙ first-complete file g s)
+  says-none : (e : FileFault) → length file ≤ most_bytes → first_reading file ≡ Err e → SaysNone file
+  says-none e size h = (size, λ g s. not-both (sym h ∙ first-complete file g s))
 
   first-lacks : Bytes file → (e : FileFault) → first_reading file ≡ Err e → Lacks file words e
   first-lacks fit e h = go (ltb most_bytes (length file)) refl (scan begin file) refl h
     where
-      of_scan : (x : FileFault) → scan begin file ≡ Err x → x ≡ e → Lacks file words e
-      of_scan (Record x) r q = subst (Lacks file words) q (record-lacks x (first-faults begin file (Record x) r) (says-none (Record x) (h ∙ ap (λ z. Err z) (sym q)), first-behind file x fit r))
-      of_scan Size r q = absurd (first-faults begin file Size r)
-      of_scan Rows r q = absurd (first-faults begin file Rows r)
-      of_scan Memory r q = absurd (first-faults begin file Memory r)
+      of_scan : (x : FileFault) → length file ≤ most_bytes → scan begin file ≡ Err x → x ≡ e → Lacks file words e
+      of_scan (Record x) size r q = subst (Lacks file words) q (record-lacks x (first-faults begin file (Record x) r) (says-none (Record x) size (h ∙ ap (λ z. Err z) (sym q)), first-behind file x fit r))
+      of_scan Size size r q = absurd (first-faults begin file Size r)
+      of_scan Rows size r q = absurd (first-faults begin file Rows r)
+      of_scan Memory size r q = absurd (first-faults begin file Memory r)
 
       go : (b : Bool) → ltb most_bytes (length file) ≡ b → (r : Reading) → scan begin file ≡ r → cond b (Err Size) (graph_in r) ≡ Err e → Lacks file words e
       go true q r z k = subst (Lacks file words) (in-err _ _ k) (ltb-true most_bytes (length file) q)
       go false q (Ok p) z k = absurd (not-both (sym k))
-      go false q (Err x) z k = of_scan x z (in-err _ _ k)
+      go false q (Err x) z k = of_scan x (ltb-false most_bytes (length file) q) z (in-err _ _ k)
 
   second-lacks : (g : Graph) (x : InRecord) → Says file g → second_reading g ≡ Err x → Lacks file words (Record x)
   second-lacks g x s h =

@@ -6,7 +6,7 @@ use Rattle.graph.specs.declared.index.Key as code
 use Rattle.graph.specs.Keys.{Key, is_key}
 use Rattle.graph.specs.Limits.{most_features}
 
--- how many buckets there are, and by what each byte of a name spreads the keys over them
+-- how many buckets there are, and what the hash is multiplied by at each byte of a name
 abbrev pub buckets : ℕ
 buckets = 32749
 

@@ -67,9 +67,9 @@ abbrev pub Refers : Graph → ℕ → Part → Type 0
 Refers g p (dependency d) = (d.end < length g) × AllByRecursion (HasFeature g d.end) d.asks
 Refers g p (feature f) = AllByRecursion (Resolves g p) f.values
 
--- the file says no lawful graph
+-- the file is no longer than may be, and says no lawful graph
 abbrev pub SaysNone : List ℕ → Type 0
-SaysNone file = (g : Graph) → Says file g → ⊥
+SaysNone file = (length file ≤ most_bytes) × ((g : Graph) → Says file g → ⊥)
 
 -- the file begins with so many records, each with a kind and a body, and the next one begins at this place
 pub record Behind (file : List ℕ) (number start : ℕ) : Type 0 where
@@ -108,8 +108,8 @@ Lacks file words (Record x) = RecordLacks file x.number x.start x.fault
 Lacks file words Rows = (g : Graph) × Says file g × Resolved g × (most_rule_rows < length (rows g))
 Lacks file words Memory = (g : Graph) × Says file g × Resolved g × (length (rows g) ≤ most_rule_rows) × (length words < head_words + row_width * length (rows g))
 
--- Opening accepts exactly such a file, as that graph, of which there is one; where it is refused, just what the refusal
--- tells is lacking.
+-- Opening accepts exactly such a file, as that graph, of which there is one; where it is refused, what the refusal tells is
+-- lacking. More may be.
 pub record OpeningLaw (file words : List ℕ) (r : Result (Opened × List ℕ) FileFault) : Type 0 where
   pub sound : (o : Opened) (ws : List ℕ) → r ≡ Ok (o, ws) → (g : Graph) × Opens file words g × (o ≡ opened_as g (length (encode g))) × (ws ≡ over (graph_words g) words)
   pub complete : (g : Graph) → Opens file words g → r ≡ Ok (opened_as g (length (encode g)), over (graph_words g) words)

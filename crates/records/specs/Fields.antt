@@ -4,6 +4,7 @@ use Rattle.text.specs.declared.faults.StringFault.{StringFault}
 use Rattle.text.specs.declared.faults.StringFault.TheVariants.{NoForm}
 use Rattle.text.specs.Forms.{Form, Piece}
 use Rattle.text.specs.Readers.{read_name, read_form}
+use Rattle.records.specs.Encoding.{version}
 use Rattle.records.specs.declared.faults.InField.{InField}
 use Rattle.records.specs.declared.faults.RecordFault.{RecordFault}
 use Rattle.records.specs.declared.faults.RecordFault.TheVariants.{Ragged, Mark, Text}
@@ -132,9 +133,9 @@ closed_of (b ∷ bs) at = Err (Ragged at)
 abbrev pub closed_field : Field (Unit {0})
 closed_field v = closed_of v.left v.place
 
--- the body of a header record: version 1
+-- the body of a header record: the version
 abbrev pub version_at : ℕ → ℕ → Field (Unit {0})
-version_at at x v = cond (x == 1) (closed_field v) (Err (Mark at))
+version_at at x v = cond (x == version) (closed_field v) (Err (Mark at))
 
 abbrev pub header_field : Field (Unit {0})
 header_field v = and_then word_field (version_at v.place) v

@@ -66,7 +66,7 @@ within-range n (Some w) row h =
     ap (λ (v : Row). in_range n v.from v.mate v.to) (sym e) ∙ c.0
 
 pub read-range : (n : ℕ) (ws : List ℕ) (r : ℕ) (row : Row) → row_read n ws r ≡ Some row → InRange n row
-read-range n ws r row h = in-range n row (within-range n (row_from (take 5 (drop (4 + 5 * r) ws))) row h)
+read-range n ws r row h = in-range n row (within-range n (row_from (take row_width (drop (head_words + row_width * r) ws))) row h)
 
 -- an item of a side is found again from its number
 pub item-low : (n : ℕ) (s : Side) (l : ℕ) → l < n → item_on n s l < sides * n
