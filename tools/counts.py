@@ -4,8 +4,8 @@
     python3 tools/counts.py LOG        (from the repository's root; LOG holds what .ci/run printed)
 
 Functions and assumed C functions are as the gate names them. A definition is an `abbrev`, `record` or `data` in specs/,
-or one that is `unfoldable`. Lines of proofs and definitions are those that are neither empty nor a comment. Public
-functions are those of src/ that are `pub`. Must-fail edits are the files of must-fail/.
+or one that is `unfoldable`. Lines of proofs and definitions are those that are neither empty nor a comment. Must-fail
+edits are the files of must-fail/.
 """
 import re
 import sys
