@@ -1,7 +1,7 @@
 // Counts of what books answer.
 use crate::asks::Asks;
 use crate::plain::{PlainBook, Watch};
-use rulebook::book::Rulebook;
+use rulebook::Rulebook;
 use std::fmt;
 use tally::Tally;
 

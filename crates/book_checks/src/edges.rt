@@ -1,28 +1,22 @@
 // Books and policies at their edges, with answers that were worked out by hand.
 use crate::plain::NONE;
-use graph::opening::open_graph;
-use policy::answers::answer;
-use policy::dev_cut::DevCut;
-use policy::host_split::HostSplit;
-use policy::sides::Side;
-use policy::unified::Unified;
-use rulebook::book::Rulebook;
-use rulebook::entries::{Entry, Found};
-use rulebook::graph_book::GraphBook;
-use rulebook::house_book::HouseBook;
+use graph::open_graph;
+use lanes::Side;
+use policy::{DevCut, HostSplit, Unified, answer};
+use rulebook::{GraphBook, HouseBook, RowEntry, Rulebook, WatchEntry};
 use std::alloc::{AllocError, Global};
 use std::process::Abort;
 use std::test::Fail;
 
 // An item, a row, and what is found there.
-type Row = (u32, u32, Option<Found>);
+type Row = (u32, u32, Option<RowEntry>);
 
-fn found(row: u32, partner: Option<u32>, conclusion: u32) -> Option<Found> {
-    let entry = Entry {
+fn found(row: u32, partner: Option<u32>, conclusion: u32) -> Option<RowEntry> {
+    let entry = WatchEntry {
         partner,
         conclusion,
     };
-    Some(Found { row, entry })
+    Some(RowEntry { row, entry })
 }
 
 fn check_counts<B: Rulebook>(rt: &impl Abort, book: &B, items: u32, rows: u32) {
@@ -259,7 +253,7 @@ fn cut(rt: HostRuntime) {
 
 // As many items as there may be, and one more of a kind.
 #[test]
-fn most_items(rt: HostRuntime) {
+fn max_items(rt: HostRuntime) {
     let row = [36_863, NONE, 0, 1, 1];
     let [from, with, to, lane, cross] = row;
     check_words(
@@ -352,7 +346,7 @@ fn rule_after(heap: Global, rows: usize) -> Result<Vec<u32>, AllocError> {
 }
 
 #[test]
-fn most_rows(rt: HostRuntime) -> Result<(), Fail> {
+fn max_rows(rt: HostRuntime) -> Result<(), Fail> {
     let last = rule_after(rt.alloc(), 4_095)?;
     check_house(
         &rt,

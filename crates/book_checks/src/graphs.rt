@@ -6,11 +6,8 @@ use crate::plain::NONE;
 use crate::readings::{Manner, graph_book};
 use crate::sheets::{HOST_SPLIT, HOST_SPLIT_NO_DEV, Sheet, UNIFIED, UNIFIED_NO_DEV};
 use dice::Dice;
-use policy::answers::Policy;
-use policy::dev_cut::DevCut;
-use policy::host_split::HostSplit;
-use policy::unified::Unified;
-use rulebook::graph_book::GraphBook;
+use policy::{DevCut, HostSplit, Policy, Unified};
+use rulebook::GraphBook;
 use std::alloc::{AllocError, Global};
 
 // Words, with what their books are asked for.

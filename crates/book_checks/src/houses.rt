@@ -5,7 +5,7 @@ use crate::draws::draw_house;
 use crate::plain::NONE;
 use crate::readings::house_book;
 use dice::Dice;
-use rulebook::house_book::HouseBook;
+use rulebook::HouseBook;
 use std::alloc::{AllocError, Global};
 
 // Compares the book of an item count and words.

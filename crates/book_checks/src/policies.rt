@@ -1,10 +1,7 @@
 // Policies, asked by number and compared with the sheets.
 use crate::sheets::{Goal, HOST_SPLIT, HOST_SPLIT_NO_DEV, Sheet, UNIFIED, UNIFIED_NO_DEV};
-use policy::answers::{Policy, answer};
-use policy::dev_cut::DevCut;
-use policy::host_split::HostSplit;
-use policy::sides::Side;
-use policy::unified::Unified;
+use lanes::Side;
+use policy::{DevCut, HostSplit, Policy, Unified, answer};
 use tally::Tally;
 
 // all lanes and sides, and numbers of none: past the last, and large

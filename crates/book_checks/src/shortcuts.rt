@@ -5,10 +5,8 @@ use crate::draws::draw_graph;
 use crate::readings::{Manner, graph_book};
 use crate::sheets::{HOST_LEAKS, HOST_SPLIT, HOST_SPLIT_NO_DEV, Sheet};
 use dice::Dice;
-use policy::answers::Policy;
-use policy::dev_cut::DevCut;
-use policy::host_split::HostSplit;
-use rulebook::graph_book::GraphBook;
+use policy::{DevCut, HostSplit, Policy};
+use rulebook::GraphBook;
 use std::alloc::{AllocError, Global};
 use std::fmt;
 

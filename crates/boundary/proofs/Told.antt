@@ -5,7 +5,7 @@ use Rattle.std.proofs.lemmas.Bool.{cond-true, and_from, le-leb}
 use Rattle.std.proofs.lemmas.List.{take_at}
 use Rattle.graph.specs.Opening.{over}
 use Rattle.policy.specs.Answers.{host_split}
-use Rattle.rulebook.specs.Tables.{Table, Laws, most_items}
+use Rattle.rulebook.specs.Tables.{Table, Laws, max_items}
 use Rattle.rulebook.specs.GraphTable.{graph_table}
 use Rattle.rulebook.specs.GraphLaws.{graph-laws}
 use Rattle.session.specs.declared.calls.Outcome.{Outcome}
@@ -15,8 +15,8 @@ use Rattle.session.specs.declared.calls.Answer.TheVariants as answer
 use Rattle.session.specs.declared.trail.TrailRecord.{TrailRecord}
 use Rattle.session.specs.Least.{OneOf, Least}
 use Rattle.session.specs.Trails.{active}
-use Rattle.session.specs.States.{State, empty, opened, items_after, request_answer, request_leaves, settle_answer}
-use Rattle.session.specs.Histories.{Call, request, settle, accepted_by, settled_by, History, history}
+use Rattle.session.specs.States.{State, empty, open_session, items_after, request_answer, request_leaves, settle_answer}
+use Rattle.session.specs.Histories.{Call, request, settle, accepted_in_call, settled_after_call, History, history}
 use Rattle.session.proofs.LawHolds.{session-law}
 use Rattle.boundary.specs.Numbers.{items_of, told_in, settled_number, unless_refused, number_of, graph_settled}
 use Rattle.boundary.specs.SettleLaw.{SettleLaw}
@@ -44,11 +44,11 @@ active-told (r ∷ t) i h = go (eqb r.item i) (eqb→eq r.item i) h (active-told
     go false e k more = inr (more k)
 
 -- a session for as many items as the table has begins empty
-opened-empty : (t : Table) → Laws t → opened t.items t.items t.items ≡ empty t.items
+opened-empty : (t : Table) → Laws t → open_session t.items t.items t.items ≡ empty t.items
 opened-empty t laws =
     let n = t.items in
     let same : leb n n ≡ true = le-leb n n (omega arith) in
-    ap (λ c. empty (items_after n c)) (cond-true _ _ _ (and_from (leb n n) (leb n n) same same) ∙ cond-true _ _ _ (le-leb n most_items laws.few_items))
+    ap (λ c. empty (items_after n c)) (cond-true _ _ _ (and_from (leb n n) (leb n n) same same) ∙ cond-true _ _ _ (le-leb n max_items laws.few_items))
 
 -- where the answer is k + 1, the first k words are the items of the least set
 abbrev Tells : Table → List ℕ → ℕ → List ℕ → Type 0
@@ -68,10 +68,10 @@ module _ (t : Table) (laws : Laws t) (is : List ℕ) (b : ℕ) (room : List ℕ)
   answered = settle_answer t b (request_leaves begun is)
 
   accepted-all : request_answer begun is ≡ Ok tt → past.accepted ≡ is
-  accepted-all q = ap (λ r. accepted_by (request is) (answer.Requested r) ++ []) q ∙ append-nil is
+  accepted-all q = ap (λ r. accepted_in_call (request is) (answer.Request r) ++ []) q ∙ append-nil is
 
   settled-all : (steps : ℕ) → answered ≡ Ok (Settled steps) → T past.settled
-  settled-all steps q = subst (λ a. T (settled_by (settled_by false (answer.Requested (request_answer begun is))) (answer.Settled a))) (sym q) tt
+  settled-all steps q = subst (λ a. T (settled_after_call (settled_after_call false (answer.Request (request_answer begun is))) (answer.Settle a))) (sym q) tt
 
   module _ (number : ℕ) (told : List ℕ) where
     tells-none : ◌≡◌ {A = ℕ × List ℕ} (number, told) (0, room) → Tells t is number told

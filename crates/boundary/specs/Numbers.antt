@@ -10,7 +10,7 @@ use Rattle.session.specs.declared.calls.Outcome.{Outcome}
 use Rattle.session.specs.declared.calls.Outcome.TheVariants.{Settled, Pending}
 use Rattle.session.specs.declared.calls.SessionFault.{SessionFault}
 use Rattle.session.specs.declared.trail.TrailRecord.{TrailRecord}
-use Rattle.session.specs.States.{State, opened, request_answer, request_leaves, settle_answer, settle_leaves}
+use Rattle.session.specs.States.{State, open_session, request_answer, request_leaves, settle_answer, settle_leaves}
 
 -- Opening: one more than the number of rows, with the words; where it is refused, 0, with the words as they were
 abbrev pub opened_number : List ℕ → Result (Opened × List ℕ) FileFault → ℕ × List ℕ
@@ -48,4 +48,4 @@ number_of t is budget active s = settled_number active (answer_of t budget is s)
 unfoldable pub graph_settled : List ℕ → List ℕ → ℕ → List ℕ → ℕ × List ℕ
 graph_settled words is budget active =
     let t = graph_table host_split words
-    in number_of t is budget active (opened t.items t.items t.items)
+    in number_of t is budget active (open_session t.items t.items t.items)

@@ -3,7 +3,7 @@ ghost use Rattle.std.specs.Prelude.{◌≡◌, ℕ, List};
 ghost use Rattle.boundary.specs.Numbers.{opened_number};
 ghost use Rattle.graph.specs.Opening.{open_graph};
 
-use graph::opening::open_graph;
+use graph::open_graph;
 
 // Opens a graph file into the words. The answer is one more than the number of its rule rows, or 0 if it is refused.
 #[unsafe(no_mangle)]

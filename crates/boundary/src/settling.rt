@@ -4,12 +4,9 @@ ghost use Rattle.boundary.specs.Numbers.{items_of, answer_of, state_of, settled_
 ghost use Rattle.boundary.specs.SettleLaw.{SettleLaw};
 ghost use Rattle.session.specs.Held.{state, trail_of};
 
-use policy::host_split::HostSplit;
-use rulebook::book::Rulebook;
-use rulebook::graph_book::GraphBook;
-use session::calls::{Outcome, SessionFault};
-use session::session::Session;
-use session::trail::{TrailRecord, UNUSED};
+use policy::HostSplit;
+use rulebook::{GraphBook, Rulebook};
+use session::{Outcome, Session, SessionFault, TrailRecord, UNUSED};
 use std::alloc::{AllocError, Global};
 
 // The answer of settling where there is no memory for a session.

@@ -1,9 +1,8 @@
 // Files opened by the library and by the second opener.
 use crate::inputs::Compare;
 use crate::opener;
-use graph::opening::open_graph;
-use graph::refusals::Refusal;
-use graph::rows::Opened;
+use graph::{Opened, open_graph};
+use refusals::Refusal;
 use std::alloc::{AllocError, Global};
 use std::{fmt, iter};
 use tally::Tally;

@@ -2,7 +2,7 @@
 use crate::compared::open;
 use crate::encode::feature_record;
 use crate::example::{RECORDS, example, joined, put};
-use graph::refusals::Refusal;
+use refusals::Refusal;
 use std::alloc::{AllocError, Global};
 use std::process::Abort;
 use std::test::Fail;
@@ -13,7 +13,7 @@ type Change = (usize, u8);
 pub fn refused(number: u32, record: usize, start: usize, field: usize, prefix: usize) -> Refusal {
     Refusal {
         number,
-        record,
+        record_number: record,
         start,
         field,
         prefix,

@@ -1,9 +1,6 @@
 // Strings at the edges of the grammar, with the answers that it gives them.
 use std::process::Abort;
-use text::faults::StringFault;
-use text::names::read_name;
-use text::parts::{FeatureString, Part};
-use text::strings::read_feature_string;
+use text::{FeatureString, Piece, StringFault, read_feature_string, read_name};
 
 const LETTERS_64: &[u8] = b"aaaaaaaaaaaaaaaaaaaaaaaaaaaaaaaaaaaaaaaaaaaaaaaaaaaaaaaaaaaaaaaa";
 
@@ -21,9 +18,9 @@ const WEAK_64: &[u8] = b"aaaaaaaaaaaaaaaaaaaaaaaaaaaaaaaaaaaaaaaaaaaaaaaaaaaaaaa
 type Row<'a> = (&'a [u8], FeatureString<'a>);
 
 // So many bytes of a string, from a place on.
-fn part<'a>(text: &'a [u8], at: usize, len: usize) -> Part<'a> {
+fn part<'a>(text: &'a [u8], at: usize, len: usize) -> Piece<'a> {
     let bytes = text.get(at..at.saturating_add(len)).unwrap_or(&[]);
-    Part { at, bytes }
+    Piece { at, bytes }
 }
 
 fn plain<'a>(text: &'a [u8], len: usize) -> Row<'a> {
@@ -144,7 +141,7 @@ fn check(rt: &impl Abort, text: &[u8], refused: Option<usize>) {
 }
 
 // A string, and what is answered of it as a name.
-type NameRow<'a> = (&'a [u8], Result<Part<'a>, StringFault>);
+type NameRow<'a> = (&'a [u8], Result<Piece<'a>, StringFault>);
 
 fn no_name<'a>(text: &'a [u8], prefix: usize) -> NameRow<'a> {
     (text, Err(StringFault::NoName { prefix }))

@@ -6,8 +6,8 @@ use crate::encode::{
 };
 use crate::example::example;
 use crate::kinds::EdgeKind;
-use graph::refusals::Refusal;
-use graph::rows::Opened;
+use graph::Opened;
+use refusals::Refusal;
 use std::alloc::{AllocError, Global};
 use std::process::Abort;
 use std::test::Fail;

@@ -11,7 +11,7 @@ use crate::opener::listing::{list_rows, words_of};
 use crate::opener::reading::read_graph;
 use crate::opener::references::look_up;
 use crate::opener::stops::{Place, Stop, Why};
-use graph::rows::Opened;
+use graph::Opened;
 use std::alloc::Global;
 
 const MOST_BYTES: usize = 1_048_576;

@@ -1,8 +1,7 @@
 // A second computation of what the readers answer: a string is taken apart at its first separator,
 // and the place of a refusal is found by completing each prefix and trying again.
 use std::alloc::{AllocError, Global};
-use text::faults::StringFault;
-use text::parts::{FeatureString, Part};
+use text::{FeatureString, Piece, StringFault};
 
 fn is_name(text: &[u8]) -> bool {
     text.len() <= 64
@@ -13,8 +12,8 @@ fn is_name(text: &[u8]) -> bool {
 }
 
 // The bytes at a place of a string as a part of it, if they are a name.
-fn name_at<'a>(at: usize, bytes: &'a [u8]) -> Option<Part<'a>> {
-    is_name(bytes).then_some(Part { at, bytes })
+fn name_at<'a>(at: usize, bytes: &'a [u8]) -> Option<Piece<'a>> {
+    is_name(bytes).then_some(Piece { at, bytes })
 }
 
 // The form of two names with a slash between them.
@@ -85,7 +84,7 @@ pub fn of_string<'a>(
 }
 
 // What is to be answered of a name.
-pub fn of_name<'a>(text: &'a [u8]) -> Result<Part<'a>, StringFault> {
+pub fn of_name<'a>(text: &'a [u8]) -> Result<Piece<'a>, StringFault> {
     name_at(0, text).ok_or_else(|| {
         let prefix = (0..=text.len())
             .rev()

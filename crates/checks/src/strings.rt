@@ -4,8 +4,7 @@ use crate::second;
 use std::alloc::{AllocError, Global};
 use std::iter;
 use tally::Tally;
-use text::names::read_name;
-use text::strings::read_feature_string;
+use text::{read_feature_string, read_name};
 
 impl Compare for Tally {
     fn compare(&mut self, heap: Global, text: &[u8]) -> Result<(), AllocError> {

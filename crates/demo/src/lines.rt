@@ -1,13 +1,10 @@
 // The lines that are printed of a graph file.
 ghost use Rattle.std.specs.Prelude.{◌≡◌};
-ghost use Rattle.demo.specs.Lines.{place};
-ghost use Rattle.graph.specs.Rules.{mate_of};
+ghost use Rattle.graph.specs.Rules.{with_of};
 
-use graph::refusals::Refusal;
-use graph::rows::{Opened, mate_of};
-use rulebook::entries::{Entry, Found};
-use session::calls::Reason;
-use session::trail::TrailRecord;
+use graph::{Opened, with_of};
+use rulebook::{RowEntry, WatchEntry};
+use session::{Reason, TrailRecord};
 use std::fmt;
 
 // What an opened graph has.
@@ -35,22 +32,22 @@ impl fmt::Display for Counts {
 
 // The second premise of a row, if it has one.
 #[derive(Clone, Copy)]
-pub struct Mate {
+pub struct With {
     item: Option<u32>,
 }
 
-impl From<u32> for Mate {
-    ghost from_gives = { λ word mate. mate.item ≡ mate_of word };
+impl From<u32> for With {
+    ghost from_gives = { λ word with. with.item ≡ with_of word };
 
     // Of the second word of a row.
-    fn from(word: u32) -> Mate {
-        Mate {
-            item: mate_of(word),
+    fn from(word: u32) -> With {
+        With {
+            item: with_of(word),
         }
     }
 }
 
-impl fmt::Display for Mate {
+impl fmt::Display for With {
     fn fmt<W: fmt::Write>(&self, f: &mut fmt::Formatter<W>) -> fmt::Result {
         match self.item {
             Some(item) => write!(f, "{item}"),
@@ -64,7 +61,7 @@ impl fmt::Display for Mate {
 pub struct RowLine {
     pub number: usize,
     pub from: u32,
-    pub mate: Mate,
+    pub with: With,
     pub to: u32,
     pub lane: u32,
     pub cross: u32,
@@ -75,14 +72,14 @@ impl fmt::Display for RowLine {
         let RowLine {
             number,
             from,
-            mate,
+            with,
             to,
             lane,
             cross,
         } = *self;
         write!(
             f,
-            "row {number}: from {from} with {mate} to {to} lane {lane} cross {cross}"
+            "row {number}: from {from} with {with} to {to} lane {lane} cross {cross}"
         )
     }
 }
@@ -91,14 +88,14 @@ impl fmt::Display for RowLine {
 #[derive(Clone, Copy)]
 pub struct WatchLine {
     pub unit: u32,
-    pub found: Found,
+    pub found: RowEntry,
 }
 
 impl fmt::Display for WatchLine {
     fn fmt<W: fmt::Write>(&self, f: &mut fmt::Formatter<W>) -> fmt::Result {
         let WatchLine { unit, found } = *self;
-        let Found { row, entry } = found;
-        let Entry {
+        let RowEntry { row, entry } = found;
+        let WatchEntry {
             partner,
             conclusion,
         } = entry;
@@ -107,35 +104,6 @@ impl fmt::Display for WatchLine {
             write!(f, "with {partner}, ")?;
         }
         write!(f, "conclusion {conclusion}")
-    }
-}
-
-// Why a file is refused, and where.
-#[derive(Clone, Copy)]
-pub struct RefusalLine {
-    pub refusal: Refusal,
-}
-
-impl RefusalLine {
-    // The place in the file, which is the sum of the three places.
-    pub fn byte(&self) -> usize
-        ensures { result ≡ place self.now.refusal }
-    {
-        let Refusal {
-            start,
-            field,
-            prefix,
-            ..
-        } = self.refusal;
-        start.saturating_add(field).saturating_add(prefix)
-    }
-}
-
-impl fmt::Display for RefusalLine {
-    fn fmt<W: fmt::Write>(&self, f: &mut fmt::Formatter<W>) -> fmt::Result {
-        let Refusal { number, record, .. } = self.refusal;
-        let byte = self.byte();
-        write!(f, "refused {number} record {record} byte {byte}")
     }
 }
 

@@ -1,12 +1,11 @@
 // What is printed of a graph and of a session on it.
-use crate::lines::{Counts, Mate, RefusalLine, RowLine, SettledLine, TrailLine, WatchLine};
+use crate::lines::{Counts, RowLine, SettledLine, TrailLine, WatchLine, With};
 use crate::opened::OpenedGraph;
-use graph::refusals::Refusal;
-use graph::rows::WIDTH;
-use policy::host_split::HostSplit;
-use rulebook::book::Rulebook;
-use rulebook::graph_book::GraphBook;
-use session::trail::TrailRecord;
+use graph::ROW_WIDTH;
+use policy::HostSplit;
+use refusals::Refusal;
+use rulebook::{GraphBook, Rulebook};
+use session::TrailRecord;
 use std::io::Write;
 
 // Prints the counts of a graph.
@@ -20,12 +19,12 @@ pub fn print_counts(out: &mut impl Write, graph: &OpenedGraph) -> anyhow::Result
 
 // Prints the rule rows of a graph, each with its number.
 fn print_rows(out: &mut impl Write, graph: &OpenedGraph) -> anyhow::Result<()> {
-    let (rows, _) = graph.rows().as_chunks::<WIDTH>();
+    let (rows, _) = graph.rows().as_chunks::<ROW_WIDTH>();
     for (number, [from, with, to, lane, cross]) in rows.iter().enumerate() {
         let line = RowLine {
             number,
             from: *from,
-            mate: Mate::from(*with),
+            with: With::from(*with),
             to: *to,
             lane: *lane,
             cross: *cross,
@@ -61,8 +60,7 @@ pub fn print_rules(out: &mut impl Write, graph: &OpenedGraph) -> anyhow::Result<
 
 // Prints why a file or a call is refused, and where.
 pub fn print_refusal(out: &mut impl Write, refusal: Refusal) -> anyhow::Result<()> {
-    let line = RefusalLine { refusal };
-    writeln!(out, "{line}")?;
+    writeln!(out, "{refusal}")?;
     Ok(())
 }
 

@@ -16,7 +16,7 @@ use crate::asked::asked_items;
 use crate::listing::{print_counts, print_refusal, print_rules};
 use crate::opened::{OpenError, OpenedGraph, open_file};
 use crate::resolved::print_resolved;
-use graph::refusals::Refusal;
+use refusals::Refusal;
 use std::alloc::Global;
 use std::io::{BufWriter, Read, Write};
 

@@ -3,9 +3,7 @@ ghost use Rattle.std.specs.Prelude.{◌≡◌};
 ghost use Rattle.demo.specs.Lines.{row_words};
 ghost use Rattle.demo.specs.declared.opened.OpenError.TheVariants.{Refused, Memory};
 
-use graph::faults::FileFault;
-use graph::opening::open_graph;
-use graph::rows::{HEAD, MAX_ROWS, Opened, WIDTH};
+use graph::{FileFault, HEAD_WORDS, MAX_RULE_ROWS, Opened, ROW_WIDTH, open_graph};
 use std::alloc::{AllocError, Global};
 
 // Why there is no opened graph.
@@ -45,15 +43,15 @@ impl OpenedGraph {
     pub fn rows(&self) -> &[u32]
         ensures { result.now ≡ row_words self.now.counts.rows self.now.words.items }
     {
-        let end = HEAD + WIDTH * self.counts.rows as usize;
-        self.words.get(HEAD..end).unwrap_or(&[])
+        let end = HEAD_WORDS + ROW_WIDTH * self.counts.rows as usize;
+        self.words.get(HEAD_WORDS..end).unwrap_or(&[])
     }
 }
 
 // the words of a graph with 1,024 rule rows, and of one with as many as there may be
-const FEW: usize = HEAD + WIDTH * 1_024;
+const FEW: usize = HEAD_WORDS + ROW_WIDTH * 1_024;
 
-const MOST: usize = HEAD + WIDTH * MAX_ROWS as usize;
+const MOST: usize = HEAD_WORDS + ROW_WIDTH * MAX_RULE_ROWS as usize;
 
 fn open_within(heap: Global, file: &[u8], room: usize) -> Result<OpenedGraph, OpenError> {
     let mut words = vec![in heap; 0u32; room]?;

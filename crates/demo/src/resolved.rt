@@ -6,14 +6,11 @@ ghost use Rattle.session.specs.States.{request_answer, request_leaves, settle_an
 use crate::lines::CheckLine;
 use crate::listing::{print_refusal, print_trail};
 use crate::opened::OpenedGraph;
-use graph::refusals::Refusal;
-use policy::host_split::HostSplit;
-use resolver::replays::replay;
-use rulebook::book::Rulebook;
-use rulebook::graph_book::GraphBook;
-use session::calls::{Answer, Call, Outcome, Reason, SessionFault};
-use session::session::Session;
-use session::trail::UNUSED;
+use policy::HostSplit;
+use refusals::Refusal;
+use resolver::run_calls;
+use rulebook::{GraphBook, Rulebook};
+use session::{Answer, Call, Outcome, Reason, Session, SessionFault, UNUSED};
 use std::alloc::Global;
 use std::io::Write;
 
@@ -29,10 +26,10 @@ fn request<B: Rulebook>(
     ensures answer { result ≡ request_answer (state session.old) items.now }
     ensures state { state session.new ≡ request_leaves (state session.old) items.now }
 {
-    let mut answers = [Answer::Requested(Ok(()))];
-    replay(session, book, &[Call::Request(items)], &mut answers)?;
+    let mut answers = [Answer::Request(Ok(()))];
+    run_calls(session, book, &[Call::Request(items)], &mut answers)?;
     match answers {
-        [Answer::Requested(answer)] => answer,
+        [Answer::Request(answer)] => answer,
         _ => Ok(()),
     }
 }
@@ -42,10 +39,10 @@ fn settle<B: Rulebook>(session: &mut Session<'_>, book: &B) -> Result<Outcome, S
     ensures answer { result ≡ settle_answer (B.Rulebook.table book.now) 4 (state session.old) }
     ensures state { state session.new ≡ settle_leaves (B.Rulebook.table book.now) 4 (state session.old) }
 {
-    let mut answers = [Answer::Settled(Ok(Outcome::Pending))];
-    replay(session, book, &[Call::Settle(BUDGET)], &mut answers)?;
+    let mut answers = [Answer::Settle(Ok(Outcome::Pending))];
+    run_calls(session, book, &[Call::Settle(BUDGET)], &mut answers)?;
     match answers {
-        [Answer::Settled(answer)] => answer,
+        [Answer::Settle(answer)] => answer,
         _ => Ok(Outcome::Pending),
     }
 }
@@ -60,7 +57,7 @@ fn is_active<B: Rulebook>(
     ensures state { state session.new ≡ state session.old }
 {
     let mut answers = [Answer::Active(Ok(false))];
-    replay(session, book, &[Call::Active(item)], &mut answers)?;
+    run_calls(session, book, &[Call::Active(item)], &mut answers)?;
     match answers {
         [Answer::Active(answer)] => answer,
         _ => Ok(false),
@@ -77,7 +74,7 @@ fn reason<B: Rulebook>(
     ensures state { state session.new ≡ state session.old }
 {
     let mut answers = [Answer::Reason(Err(SessionFault::Inactive))];
-    replay(session, book, &[Call::Reason(item)], &mut answers)?;
+    run_calls(session, book, &[Call::Reason(item)], &mut answers)?;
     match answers {
         [Answer::Reason(answer)] => answer,
         _ => Err(SessionFault::Inactive),

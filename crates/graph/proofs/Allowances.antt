@@ -12,37 +12,39 @@ use Rattle.records.specs.Frames.{Frame, frame_of}
 use Rattle.records.specs.Fields.{View, on_ok, give, word_field, name_field, closed_of, closed_field, version_at, header_field}
 use Rattle.records.specs.Bodies.{values_field, Head, package_field, dependency_field}
 use Rattle.records.specs.Graphs.{Dependency, Feature, dependency, feature}
-use Rattle.records.specs.Encoding.{two, four, string, list_bytes, value, bit, edge_number, package_body, dependency_body, feature_body, record_bytes, LawfulDependency, LawfulFeature, Bytes}
+use Rattle.records.specs.Encoding.{two, four, string, list_bytes, value, package_body, dependency_body, feature_body, record_bytes, LawfulDependency, LawfulFeature, Bytes}
+use Rattle.lanes.specs.EdgeKinds.{edge_kind_number}
+use Rattle.lanes.specs.Lanes.{bit}
 use Rattle.records.proofs.Numbers.{not-both, in-ok, bytes-split}
 use Rattle.records.proofs.Framing.{frame-says, frame-reads}
 use Rattle.records.proofs.Codes.{at, first}
 use Rattle.records.proofs.CodedFields.{word-coded, name-coded, package-closed, values-closed, dependency-closed}
 use Rattle.graph.specs.Keys.{Key, has_key}
-use Rattle.graph.specs.Reading.{Content, header, heads, part, end, Stand, kind_here, below, as_content, fresh, feature_field, content_as, content_of, Found, with_content, with_frame, after, Rest, Reading, carried, on_found, scan}
-use Rattle.graph.specs.Limits.{most_packages, most_dependencies, most_features}
+use Rattle.graph.specs.Reading.{Content, header, heads, declaration, end, Cursor, kind_here, below, as_content, fresh, feature_field, content_as, content_of, ReadRecord, with_content, with_frame, after, Rest, Reading, carried, on_found, scan}
+use Rattle.graph.specs.Limits.{max_packages, max_dependencies, max_features}
 use Rattle.graph.proofs.Scans.{scan-open}
 
 -- what a record says may stand here
-abbrev pub Allowed : Stand → Content → Type 0
+abbrev pub Allowed : Cursor → Content → Type 0
 Allowed st header = st.number ≡ 0
-Allowed st (heads h) = (0 < st.number) × (st.packages < most_packages) × Name h.name
-Allowed st (part (dependency d)) = (0 < st.number) × (0 < st.packages) × (st.dependencies < most_dependencies) × LawfulDependency d
-Allowed st (part (feature f)) = (0 < st.number) × (0 < st.packages) × (length st.keys < most_features) × (has_key (st.packages - 1) f.name st.keys ≡ false) × LawfulFeature f
+Allowed st (heads h) = (0 < st.number) × (st.packages < max_packages) × Name h.name
+Allowed st (declaration (dependency d)) = (0 < st.number) × (0 < st.packages) × (st.dependencies < max_dependencies) × LawfulDependency d
+Allowed st (declaration (feature f)) = (0 < st.number) × (0 < st.packages) × (length st.keys < max_features) × (has_key (st.packages - 1) f.name st.keys ≡ false) × LawfulFeature f
 Allowed st end = 0 < st.number
 
 -- the kind and the body of its record
 abbrev pub kind_of : Content → ℕ
 kind_of header = 1
 kind_of (heads h) = 2
-kind_of (part (dependency d)) = 3
-kind_of (part (feature f)) = 4
+kind_of (declaration (dependency d)) = 3
+kind_of (declaration (feature f)) = 4
 kind_of end = 5
 
 abbrev pub body_of : Content → List ℕ
 body_of header = two 1
 body_of (heads h) = package_body h.proc h.name
-body_of (part (dependency d)) = dependency_body d
-body_of (part (feature f)) = feature_body f
+body_of (declaration (dependency d)) = dependency_body d
+body_of (declaration (feature f)) = feature_body f
 body_of end = []
 
 -- where a kind may stand
@@ -108,7 +110,7 @@ package-reads h k law =
 
 -- the asks end a dependency's body
 abbrev asks_last : Dependency → List ℕ → List ℕ
-asks_last d z = two d.end ++ ((edge_number d.edge ∷ []) ++ ((bit d.optional ∷ []) ++ ((bit d.defaults ∷ []) ++ (string d.name ++ z))))
+asks_last d z = two d.end ++ ((edge_kind_number d.edge ∷ []) ++ ((bit d.optional ∷ []) ++ ((bit d.defaults ∷ []) ++ (string d.name ++ z))))
 
 dependency-says : (bs : List ℕ) (k : ℕ) (d : Dependency) (w : View) → Bytes bs → dependency_field (at bs k) ≡ Ok (d, w) → LawfulDependency d × (bs ≡ dependency_body d)
 dependency-says bs k d w fit e =
@@ -174,10 +176,10 @@ module _ (keys : List Key) (owner : ℕ) where
       (s.0, feature-from f (at (feature_body f) k) n h.1 (at (rest ++ []) j) s.0 h.2 y (v ∙ ap (λ z. at z j) (sym (append-nil rest))) s.1 t)
 
 -- what is read is allowed, and has just its kind and body
-abbrev pub Tells : Stand → ℕ → List ℕ → Content → Type 0
+abbrev pub Tells : Cursor → ℕ → List ℕ → Content → Type 0
 Tells st k body c = Allowed st c × (k ≡ kind_of c) × (body ≡ body_of c)
 
-module _ (st : Stand) (k : ℕ) (body : List ℕ) (fit : Bytes body) (c : Content) where
+module _ (st : Cursor) (k : ℕ) (body : List ℕ) (fit : Bytes body) (c : Content) where
   kind-says : (o : Option Kind) → kind_here st.number st.packages k ≡ o → content_as o st (at body 6) ≡ Ok c → Tells st k body c
   kind-says None e h = absurd (not-both h)
   kind-says (Some kind.Header) e h =
@@ -186,20 +188,20 @@ module _ (st : Stand) (k : ℕ) (body : List ℕ) (fit : Bytes body) (c : Conten
       subst (Tells st k body) r.3 (z.0, z.1, header-says body 6 r.0 r.1 fit r.2)
   kind-says (Some kind.Package) e h =
       let z = kind_fits st.number st.packages k kind.Package e in
-      let b = below-ok st.packages most_packages (as_content heads (package_field (at body 6))) c h in
+      let b = below-ok st.packages max_packages (as_content heads (package_field (at body 6))) c h in
       let r = as-content heads (package_field (at body 6)) c b.1 in
       let s = package-says body 6 r.0 r.1 fit r.2 in
       subst (Tells st k body) r.3 ((z.0, b.0, s.0), z.1, s.1)
   kind-says (Some kind.Dependency) e h =
       let z = kind_fits st.number st.packages k kind.Dependency e in
-      let b = below-ok st.dependencies most_dependencies (as_content (λ d. part (dependency d)) (dependency_field (at body 6))) c h in
-      let r = as-content (λ d. part (dependency d)) (dependency_field (at body 6)) c b.1 in
+      let b = below-ok st.dependencies max_dependencies (as_content (λ d. declaration (dependency d)) (dependency_field (at body 6))) c h in
+      let r = as-content (λ d. declaration (dependency d)) (dependency_field (at body 6)) c b.1 in
       let s = dependency-says body 6 r.0 r.1 fit r.2 in
       subst (Tells st k body) r.3 ((z.0, z.1, b.0, s.0), z.2, s.1)
   kind-says (Some kind.Feature) e h =
       let z = kind_fits st.number st.packages k kind.Feature e in
-      let b = below-ok (length st.keys) most_features (as_content (λ f. part (feature f)) (feature_field st.keys (st.packages - 1) (at body 6))) c h in
-      let r = as-content (λ f. part (feature f)) (feature_field st.keys (st.packages - 1) (at body 6)) c b.1 in
+      let b = below-ok (length st.keys) max_features (as_content (λ f. declaration (feature f)) (feature_field st.keys (st.packages - 1) (at body 6))) c h in
+      let r = as-content (λ f. declaration (feature f)) (feature_field st.keys (st.packages - 1) (at body 6)) c b.1 in
       let s = feature-says st.keys (st.packages - 1) body 6 r.0 r.1 fit r.2 in
       subst (Tells st k body) r.3 ((z.0, z.1, b.0, s.0, s.1), z.2, s.2)
   kind-says (Some kind.End) e h =
@@ -208,42 +210,42 @@ module _ (st : Stand) (k : ℕ) (body : List ℕ) (fit : Bytes body) (c : Conten
       subst (Tells st k body) r.3 (z.0, z.1, closed-says body 6 r.0 r.1 r.2)
 
 -- what is allowed is read from its kind and body
-content-reads : (st : Stand) (c : Content) → Allowed st c → content_as (kind_here st.number st.packages (kind_of c)) st (at (body_of c) 6) ≡ Ok c
+content-reads : (st : Cursor) (c : Content) → Allowed st c → content_as (kind_here st.number st.packages (kind_of c)) st (at (body_of c) 6) ≡ Ok c
 content-reads st header a = ap (λ n. content_as (kind_here n st.packages 1) st (at (two 1) 6)) a
 content-reads st (heads h) a =
     let n : eqb st.number 0 ≡ false = ne_eqb st.number 0 (λ z. omega (arith, a.0)) in
     let k : kind_here st.number st.packages 2 ≡ Some kind.Package = cond-false _ _ _ n in
     ap (λ o. content_as o st (at (body_of (heads h)) 6)) k
-    ∙ cond-false _ _ _ (lt-leb most_packages st.packages a.1)
+    ∙ cond-false _ _ _ (lt-leb max_packages st.packages a.1)
     ∙ ap (as_content heads) (package-reads h 6 a.2).1
-content-reads st (part (dependency d)) a =
+content-reads st (declaration (dependency d)) a =
     let n : eqb st.number 0 ≡ false = ne_eqb st.number 0 (λ z. omega (arith, a.0)) in
     let p : eqb st.packages 0 ≡ false = ne_eqb st.packages 0 (λ z. omega (arith, a.1)) in
     let k : kind_here st.number st.packages 3 ≡ Some kind.Dependency = cond-false _ _ _ n ∙ cond-false _ _ _ p in
     ap (λ o. content_as o st (at (dependency_body d) 6)) k
-    ∙ cond-false _ _ _ (lt-leb most_dependencies st.dependencies a.2)
-    ∙ ap (as_content (λ x. part (dependency x))) (dependency-reads d 6 a.3).1
-content-reads st (part (feature f)) a =
+    ∙ cond-false _ _ _ (lt-leb max_dependencies st.dependencies a.2)
+    ∙ ap (as_content (λ x. declaration (dependency x))) (dependency-reads d 6 a.3).1
+content-reads st (declaration (feature f)) a =
     let n : eqb st.number 0 ≡ false = ne_eqb st.number 0 (λ z. omega (arith, a.0)) in
     let p : eqb st.packages 0 ≡ false = ne_eqb st.packages 0 (λ z. omega (arith, a.1)) in
     let k : kind_here st.number st.packages 4 ≡ Some kind.Feature = cond-false _ _ _ n ∙ cond-false _ _ _ p in
     ap (λ o. content_as o st (at (feature_body f) 6)) k
-    ∙ cond-false _ _ _ (lt-leb most_features (length st.keys) a.2)
-    ∙ ap (as_content (λ x. part (feature x))) (feature-reads st.keys (st.packages - 1) f 6 a.3 a.4).1
+    ∙ cond-false _ _ _ (lt-leb max_features (length st.keys) a.2)
+    ∙ ap (as_content (λ x. declaration (feature x))) (feature-reads st.keys (st.packages - 1) f 6 a.3 a.4).1
 content-reads st end a =
     let n : eqb st.number 0 ≡ false = ne_eqb st.number 0 (λ z. omega (arith, a)) in
     let k : kind_here st.number st.packages 5 ≡ Some kind.End = cond-false _ _ _ n in
     ap (λ o. content_as o st (at [] 6)) k
 
 -- a content as found, and its bytes
-abbrev pub found : Content → List ℕ → Found
+abbrev pub found : Content → List ℕ → ReadRecord
 found c rest = record { content = c; frame = record { kind = kind_of c; body = body_of c; after = rest } }
 
 abbrev pub content_bytes : Content → List ℕ
 content_bytes c = record_bytes (kind_of c) (body_of c)
 
 -- what a reading makes of a content and of the bytes behind it
-abbrev pub onward : Stand → Content → List ℕ → Reading
+abbrev pub onward : Cursor → Content → List ℕ → Reading
 onward st c rest = carried st (found c rest) c (scan (after st (found c rest)) rest)
 
 body_bytes : (k : ℕ) (body rest : List ℕ) → Bytes (record_bytes k body ++ rest) → Bytes body
@@ -253,7 +255,7 @@ body_bytes k body rest b =
     (bytes-split (two k) body q.1).1
 
 -- a reading that succeeds begins with an allowed content
-pub scan-says : (st : Stand) (bs : List ℕ) (p : Rest × ℕ) → Bytes bs → scan st bs ≡ Ok p → (c : Content) × (rest : List ℕ) × Allowed st c × (bs ≡ content_bytes c ++ rest) × (onward st c rest ≡ Ok p)
+pub scan-says : (st : Cursor) (bs : List ℕ) (p : Rest × ℕ) → Bytes bs → scan st bs ≡ Ok p → (c : Content) × (rest : List ℕ) × Allowed st c × (bs ≡ content_bytes c ++ rest) × (onward st c rest ≡ Ok p)
 scan-says st bs p fit e = go (frame_of bs) refl (sym (scan-open st bs) ∙ e)
   where
     inner : (f : Frame) → bs ≡ record_bytes f.kind f.body ++ f.after → (r : Result Content RecordFault) → content_of st f ≡ r → on_found st scan (with_content st f r) ≡ Ok p → (c : Content) × (rest : List ℕ) × Allowed st c × (bs ≡ content_bytes c ++ rest) × (onward st c rest ≡ Ok p)
@@ -273,7 +275,7 @@ scan-says st bs p fit e = go (frame_of bs) refl (sym (scan-open st bs) ∙ e)
     go (Ok f) q h = inner f (frame-says bs f fit q) (content_of st f) refl h
 
 -- an allowed content is read, whatever follows
-pub scan-reads : (st : Stand) (c : Content) (rest : List ℕ) → Allowed st c → scan st (content_bytes c ++ rest) ≡ onward st c rest
+pub scan-reads : (st : Cursor) (c : Content) (rest : List ℕ) → Allowed st c → scan st (content_bytes c ++ rest) ≡ onward st c rest
 scan-reads st c rest a =
     scan-open st (content_bytes c ++ rest)
     ∙ ap (λ r. on_found st scan (with_frame st r)) (frame-reads (kind_of c) (body_of c) rest)

@@ -3,7 +3,7 @@ use Rattle.std.proofs.Common.{◌≡◌, ℕ, zero, suc, ◌+◌, ◌<◌, ◌�
 use Rattle.std.proofs.lemmas.Bool.{cases_lt}
 use Rattle.records.specs.Graphs.{Graph}
 use Rattle.graph.specs.Law.{dependencies_in, features_in, dependency_count, feature_count}
-use Rattle.graph.specs.Places.{parts_of, proc_of, dependencies_of, features_of, dependencies_before, features_before}
+use Rattle.graph.specs.Places.{declarations_of, proc_of, dependencies_of, features_of, dependencies_before, features_before}
 
 pub dependencies-next : (g : Graph) (p : ℕ) → p < length g → dependencies_before g (p + 1) ≡ dependencies_before g p + length (dependencies_of g p)
 dependencies-next [] p l = absurd (omega arith)
@@ -16,7 +16,7 @@ dependencies-next (a ∷ g) (suc p) l =
 pub dependencies-all : (g : Graph) (p : ℕ) → length g ≤ p → dependencies_before g p ≡ dependency_count g
 dependencies-all [] p l = refl
 dependencies-all (a ∷ g) zero l = absurd (omega arith)
-dependencies-all (a ∷ g) (suc p) l = ap (λ n. length (dependencies_in a.parts) + n) (dependencies-all g p (omega arith))
+dependencies-all (a ∷ g) (suc p) l = ap (λ n. length (dependencies_in a.declarations) + n) (dependencies-all g p (omega arith))
 
 pub features-next : (g : Graph) (p : ℕ) → p < length g → features_before g (p + 1) ≡ features_before g p + length (features_of g p)
 features-next [] p l = absurd (omega arith)
@@ -29,7 +29,7 @@ features-next (a ∷ g) (suc p) l =
 pub features-all : (g : Graph) (p : ℕ) → length g ≤ p → features_before g p ≡ feature_count g
 features-all [] p l = refl
 features-all (a ∷ g) zero l = absurd (omega arith)
-features-all (a ∷ g) (suc p) l = ap (λ n. length (features_in a.parts) + n) (features-all g p (omega arith))
+features-all (a ∷ g) (suc p) l = ap (λ n. length (features_in a.declarations) + n) (features-all g p (omega arith))
 
 -- no package has more than all together
 pub dependencies-within : (g : Graph) (p : ℕ) → dependencies_before g p + length (dependencies_of g p) ≤ dependency_count g
@@ -43,7 +43,7 @@ features-within (a ∷ g) zero = omega arith
 features-within (a ∷ g) (suc p) = omega (arith, features-within g p)
 
 -- a package beyond the last has nothing
-pub nothing-beyond : (g : Graph) (p : ℕ) → length g ≤ p → parts_of g p ≡ []
+pub nothing-beyond : (g : Graph) (p : ℕ) → length g ≤ p → declarations_of g p ≡ []
 nothing-beyond [] p l = refl
 nothing-beyond (a ∷ g) zero l = absurd (omega arith)
 nothing-beyond (a ∷ g) (suc p) l = nothing-beyond g p (omega arith)

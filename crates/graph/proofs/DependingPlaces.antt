@@ -13,13 +13,13 @@ use Rattle.graph.specs.Rules.{each, when}
 
 pub depending-length : (p : ℕ) (g : Graph) → length (depending p g) ≡ dependency_count g
 depending-length p [] = refl
-depending-length p (a ∷ g) = omega (arith, length-append (map (owned p) (dependencies_in a.parts)) (depending (p + 1) g), length-map (dependencies_in a.parts) (owned p), depending-length (p + 1) g)
+depending-length p (a ∷ g) = omega (arith, length-append (map (owned p) (dependencies_in a.declarations)) (depending (p + 1) g), length-map (dependencies_in a.declarations) (owned p), depending-length (p + 1) g)
 
 -- dependency i of all is one of its package
 pub depending-at : (p : ℕ) (g : Graph) (i : ℕ) → i < length (depending p g) → (q : ℕ) × (k : ℕ) × (k < length (dependencies_of g q)) × (i ≡ dependencies_before g q + k) × (get_or (depending p g) i no_depending ≡ owned (p + q) (get_or (dependencies_of g q) k no_dependency))
 depending-at p [] i l = absurd (omega arith)
 depending-at p (a ∷ g) i l =
-    let ds = dependencies_in a.parts in
+    let ds = dependencies_in a.declarations in
     let mine = map (owned p) ds in
     let n = length-map ds (owned p) in
     ⊎_elim
@@ -70,12 +70,12 @@ module _ (n : List ℕ) where
   -- later packages have none of an earlier one
   none-among : (p q i : ℕ) (g : Graph) → p < q → among p n i (depending q g) ≡ []
   none-among p q i [] l = refl
-  none-among p q i (a ∷ g) l = other-among p q i (dependencies_in a.parts) (depending (q + 1) g) (apart p q (λ e. omega arith)) ∙ none-among p (q + 1) _ g (omega arith)
+  none-among p q i (a ∷ g) l = other-among p q i (dependencies_in a.declarations) (depending (q + 1) g) (apart p q (λ e. omega arith)) ∙ none-among p (q + 1) _ g (omega arith)
 
   depending-among : (q r i : ℕ) (g : Graph) → among (q + r) n i (depending q g) ≡ each (one (i + dependencies_before g r)) 0 (dependencies_of g r)
   depending-among q r i [] = refl
   depending-among q zero i (a ∷ g) =
-      let ds = dependencies_in a.parts in
+      let ds = dependencies_in a.declarations in
       let o : q + 0 ≡ q = omega arith in
       let z : i ≡ (i + 0) + 0 = omega arith in
       ap (λ p. among p n i (depending q (a ∷ g))) o
@@ -84,7 +84,7 @@ module _ (n : List ℕ) where
       ∙ ap (λ ys. each (one (i + 0)) 0 ds ++ ys) (none-among q (q + 1) _ g (omega arith))
       ∙ append-nil (each (one (i + 0)) 0 ds)
   depending-among q (suc r) i (a ∷ g) =
-      let ds = dependencies_in a.parts in
+      let ds = dependencies_in a.declarations in
       let o : q + suc r ≡ (q + 1) + r = omega arith in
       let z : (i + length ds) + dependencies_before g r ≡ i + (length ds + dependencies_before g r) = omega arith in
       other-among (q + suc r) q i ds (depending (q + 1) g) (apart (q + suc r) q (λ e. omega arith))

@@ -6,8 +6,8 @@ use Rattle.std.proofs.lemmas.List.{length-append, get_or_append_left, get_or-app
 use Rattle.std.proofs.lemmas.Bool.{cond-true, cond-false, eqb-true, eq-eqb, and_parts, cases_Bool, cases_lt}
 use Rattle.std.specs.List.{AllByRecursion}
 use Rattle.std.specs.Str.{bytes_eq}
-use Rattle.records.specs.Graphs.{Feature, Part, dependency, feature, Graph}
-use Rattle.graph.specs.declared.index.Entry.{Entry}
+use Rattle.records.specs.Graphs.{Feature, Declaration, dependency, feature, Graph}
+use Rattle.graph.specs.declared.index.IndexEntry.{IndexEntry}
 use Rattle.graph.specs.Keys.{Key, is_key}
 use Rattle.graph.specs.Buckets.{key_of, blank, entry_at, keys_of}
 use Rattle.graph.specs.Law.{features_in, dependency_count, Differ, LawfulPackage}
@@ -19,12 +19,12 @@ use Rattle.graph.proofs.Links.{Finds, keys_length, keys-at}
 abbrev no_feature : Feature
 no_feature = record { name = []; values = [] }
 
-in-length : (p : ℕ) (ps : List Part) → length (keys_in p ps) ≡ length (features_in ps)
+in-length : (p : ℕ) (ps : List Declaration) → length (keys_in p ps) ≡ length (features_in ps)
 in-length p [] = refl
 in-length p (dependency d ∷ ps) = in-length p ps
 in-length p (feature f ∷ ps) = ap suc (in-length p ps)
 
-in-at : (p : ℕ) (ps : List Part) (j : ℕ) (d : Key) → j < length (features_in ps) → get_or (keys_in p ps) j d ≡ record { owner = p; name = (get_or (features_in ps) j no_feature).name }
+in-at : (p : ℕ) (ps : List Declaration) (j : ℕ) (d : Key) → j < length (features_in ps) → get_or (keys_in p ps) j d ≡ record { owner = p; name = (get_or (features_in ps) j no_feature).name }
 in-at p [] j d l = absurd (omega arith)
 in-at p (dependency x ∷ ps) j d l = in-at p ps j d l
 in-at p (feature f ∷ ps) zero d l = refl
@@ -34,62 +34,62 @@ in-at p (feature f ∷ ps) (suc j) d l = in-at p ps j d (omega arith)
 pub key-at : (p : ℕ) (g : Graph) (q j : ℕ) (d : Key) → j < length (features_of g q) → (features_before g q + j < length (keys_from p g)) × (get_or (keys_from p g) (features_before g q + j) d ≡ record { owner = p + q; name = (get_or (features_of g q) j no_feature).name })
 key-at p [] q j d l = absurd (omega arith)
 key-at p (a ∷ g) zero j d l =
-    let n = in-length p a.parts in
-    let m : 0 + j < length (keys_in p a.parts) = omega arith in
+    let n = in-length p a.declarations in
+    let m : 0 + j < length (keys_in p a.declarations) = omega arith in
     let z : 0 + j ≡ j = omega arith in
     let o : p ≡ p + 0 = omega arith in (
-      omega (arith, length-append (keys_in p a.parts) (keys_from (p + 1) g)),
-      get_or_append_left (keys_in p a.parts) (keys_from (p + 1) g) d (0 + j) m ∙ ap (λ i. get_or (keys_in p a.parts) i d) z ∙ in-at p a.parts j d l ∙ ap (λ i. record { owner = i; name = (get_or (features_in a.parts) j no_feature).name }) o,
+      omega (arith, length-append (keys_in p a.declarations) (keys_from (p + 1) g)),
+      get_or_append_left (keys_in p a.declarations) (keys_from (p + 1) g) d (0 + j) m ∙ ap (λ i. get_or (keys_in p a.declarations) i d) z ∙ in-at p a.declarations j d l ∙ ap (λ i. record { owner = i; name = (get_or (features_in a.declarations) j no_feature).name }) o,
     )
 key-at p (a ∷ g) (suc q) j d l =
-    let n = in-length p a.parts in
+    let n = in-length p a.declarations in
     let h = key-at (p + 1) g q j d l in
-    let e : (length (features_in a.parts) + features_before g q) + j ≡ length (keys_in p a.parts) + (features_before g q + j) = omega arith in
+    let e : (length (features_in a.declarations) + features_before g q) + j ≡ length (keys_in p a.declarations) + (features_before g q + j) = omega arith in
     let o : (p + 1) + q ≡ p + suc q = omega arith in (
-      omega (arith, h.0, length-append (keys_in p a.parts) (keys_from (p + 1) g)),
-      ap (λ i. get_or (keys_in p a.parts ++ keys_from (p + 1) g) i d) e ∙ get_or-append-add (keys_in p a.parts) (keys_from (p + 1) g) (features_before g q + j) d ∙ h.1 ∙ ap (λ i. record { owner = i; name = (get_or (features_of g q) j no_feature).name }) o,
+      omega (arith, h.0, length-append (keys_in p a.declarations) (keys_from (p + 1) g)),
+      ap (λ i. get_or (keys_in p a.declarations ++ keys_from (p + 1) g) i d) e ∙ get_or-append-add (keys_in p a.declarations) (keys_from (p + 1) g) (features_before g q + j) d ∙ h.1 ∙ ap (λ i. record { owner = i; name = (get_or (features_of g q) j no_feature).name }) o,
     )
 
 -- keys from package p on are of p at least
 least : (p : ℕ) (g : Graph) (k : ℕ) (d : Key) → k < length (keys_from p g) → p ≤ (get_or (keys_from p g) k d).owner
 least p [] k d l = absurd (omega arith)
 least p (a ∷ g) k d l =
-    let n = in-length p a.parts in
+    let n = in-length p a.declarations in
     ⊎_elim
-    (λ (m : k < length (keys_in p a.parts)).
-    let e : (get_or (keys_in p a.parts ++ keys_from (p + 1) g) k d).owner ≡ p = ap (λ x. x.owner) (get_or_append_left (keys_in p a.parts) (keys_from (p + 1) g) d k m ∙ in-at p a.parts k d (omega arith)) in
+    (λ (m : k < length (keys_in p a.declarations)).
+    let e : (get_or (keys_in p a.declarations ++ keys_from (p + 1) g) k d).owner ≡ p = ap (λ x. x.owner) (get_or_append_left (keys_in p a.declarations) (keys_from (p + 1) g) d k m ∙ in-at p a.declarations k d (omega arith)) in
     omega arith)
-    (λ (m : length (keys_in p a.parts) ≤ k).
-    let i : ℕ = k - length (keys_in p a.parts) in
-    let c : k ≡ length (keys_in p a.parts) + i = omega arith in
-    let e : get_or (keys_in p a.parts ++ keys_from (p + 1) g) k d ≡ get_or (keys_from (p + 1) g) i d = ap (λ x. get_or (keys_in p a.parts ++ keys_from (p + 1) g) x d) c ∙ get_or-append-add (keys_in p a.parts) (keys_from (p + 1) g) i d in
-    omega (arith, ap (λ x. x.owner) e, least (p + 1) g i d (omega (arith, length-append (keys_in p a.parts) (keys_from (p + 1) g)))))
-    (cases_lt k (length (keys_in p a.parts)))
+    (λ (m : length (keys_in p a.declarations) ≤ k).
+    let i : ℕ = k - length (keys_in p a.declarations) in
+    let c : k ≡ length (keys_in p a.declarations) + i = omega arith in
+    let e : get_or (keys_in p a.declarations ++ keys_from (p + 1) g) k d ≡ get_or (keys_from (p + 1) g) i d = ap (λ x. get_or (keys_in p a.declarations ++ keys_from (p + 1) g) x d) c ∙ get_or-append-add (keys_in p a.declarations) (keys_from (p + 1) g) i d in
+    omega (arith, ap (λ x. x.owner) e, least (p + 1) g i d (omega (arith, length-append (keys_in p a.declarations) (keys_from (p + 1) g)))))
+    (cases_lt k (length (keys_in p a.declarations)))
 
 -- a key of package q is that of one of its features
 pub key-of : (p : ℕ) (g : Graph) (q k : ℕ) (d : Key) → k < length (keys_from p g) → (get_or (keys_from p g) k d).owner ≡ p + q → (j : ℕ) × (j < length (features_of g q)) × (k ≡ features_before g q + j)
 key-of p [] q k d l e = absurd (omega arith)
 key-of p (a ∷ g) q k d l e =
     ⊎_elim
-    (λ (m : k < length (keys_in p a.parts)). front q m (ap (λ x. x.owner) (sym (get_or_append_left (keys_in p a.parts) (keys_from (p + 1) g) d k m ∙ in-at p a.parts k d (omega (arith, in-length p a.parts)))) ∙ e))
-    (λ (m : length (keys_in p a.parts) ≤ k).
-    let i : ℕ = k - length (keys_in p a.parts) in
-    let c : k ≡ length (keys_in p a.parts) + i = omega arith in
-    let s : i < length (keys_from (p + 1) g) = omega (arith, length-append (keys_in p a.parts) (keys_from (p + 1) g)) in
-    let x : get_or (keys_in p a.parts ++ keys_from (p + 1) g) k d ≡ get_or (keys_from (p + 1) g) i d = ap (λ y. get_or (keys_in p a.parts ++ keys_from (p + 1) g) y d) c ∙ get_or-append-add (keys_in p a.parts) (keys_from (p + 1) g) i d in
+    (λ (m : k < length (keys_in p a.declarations)). front q m (ap (λ x. x.owner) (sym (get_or_append_left (keys_in p a.declarations) (keys_from (p + 1) g) d k m ∙ in-at p a.declarations k d (omega (arith, in-length p a.declarations)))) ∙ e))
+    (λ (m : length (keys_in p a.declarations) ≤ k).
+    let i : ℕ = k - length (keys_in p a.declarations) in
+    let c : k ≡ length (keys_in p a.declarations) + i = omega arith in
+    let s : i < length (keys_from (p + 1) g) = omega (arith, length-append (keys_in p a.declarations) (keys_from (p + 1) g)) in
+    let x : get_or (keys_in p a.declarations ++ keys_from (p + 1) g) k d ≡ get_or (keys_from (p + 1) g) i d = ap (λ y. get_or (keys_in p a.declarations ++ keys_from (p + 1) g) y d) c ∙ get_or-append-add (keys_in p a.declarations) (keys_from (p + 1) g) i d in
     back q i c s (λ r z. key-of (p + 1) g r i d s z) (ap (λ y. y.owner) (sym x) ∙ e))
-    (cases_lt k (length (keys_in p a.parts)))
+    (cases_lt k (length (keys_in p a.declarations)))
   where
-    front : (r : ℕ) → k < length (keys_in p a.parts) → p ≡ p + r → (j : ℕ) × (j < length (features_of (a ∷ g) r)) × (k ≡ features_before (a ∷ g) r + j)
-    front zero m o = (k, omega (arith, in-length p a.parts), omega arith)
+    front : (r : ℕ) → k < length (keys_in p a.declarations) → p ≡ p + r → (j : ℕ) × (j < length (features_of (a ∷ g) r)) × (k ≡ features_before (a ∷ g) r + j)
+    front zero m o = (k, omega (arith, in-length p a.declarations), omega arith)
     front (suc r) m o = absurd (omega arith)
 
-    back : (r i : ℕ) → k ≡ length (keys_in p a.parts) + i → i < length (keys_from (p + 1) g) → ((t : ℕ) → (get_or (keys_from (p + 1) g) i d).owner ≡ (p + 1) + t → (j : ℕ) × (j < length (features_of g t)) × (i ≡ features_before g t + j)) → (get_or (keys_from (p + 1) g) i d).owner ≡ p + r → (j : ℕ) × (j < length (features_of (a ∷ g) r)) × (k ≡ features_before (a ∷ g) r + j)
+    back : (r i : ℕ) → k ≡ length (keys_in p a.declarations) + i → i < length (keys_from (p + 1) g) → ((t : ℕ) → (get_or (keys_from (p + 1) g) i d).owner ≡ (p + 1) + t → (j : ℕ) × (j < length (features_of g t)) × (i ≡ features_before g t + j)) → (get_or (keys_from (p + 1) g) i d).owner ≡ p + r → (j : ℕ) × (j < length (features_of (a ∷ g) r)) × (k ≡ features_before (a ∷ g) r + j)
     back zero i c s more o = absurd (omega (arith, least (p + 1) g i d s))
     back (suc r) i c s more o =
         let z : (get_or (keys_from (p + 1) g) i d).owner ≡ (p + 1) + r = omega arith in
         let h = more r z in
-        (h.0, h.1, omega (arith, h.2, in-length p a.parts))
+        (h.0, h.1, omega (arith, h.2, in-length p a.declarations))
 
 -- the place of a name among features that differ
 pub place-some : (fs : List Feature) (n : List ℕ) (j : ℕ) → j < length fs → bytes_eq (get_or fs j no_feature).name n ≡ true → Differ fs → place_of fs n ≡ Some j
@@ -115,7 +115,7 @@ features-differ (a ∷ g) zero l = l.0.2
 features-differ (a ∷ g) (suc q) l = features-differ g q l.1
 
 -- what a search in the index finds, as the number of the item
-pub finds-item : (entries : List Entry) (n : ℕ) (g : Graph) (q : ℕ) (name : List ℕ) (r : Option ℕ) → n ≤ length entries → keys_of entries n ≡ keys_from 0 g → AllByRecursion LawfulPackage g → Finds entries n q name r → option_map (λ k. (length g + dependency_count g) + k) r ≡ option_map (λ j. number g (feat q j)) (place_of (features_of g q) name)
+pub finds-item : (entries : List IndexEntry) (n : ℕ) (g : Graph) (q : ℕ) (name : List ℕ) (r : Option ℕ) → n ≤ length entries → keys_of entries n ≡ keys_from 0 g → AllByRecursion LawfulPackage g → Finds entries n q name r → option_map (λ k. (length g + dependency_count g) + k) r ≡ option_map (λ j. number g (feat q j)) (place_of (features_of g q) name)
 finds-item entries n g q name None l e law f =
     ap (option_map (λ j. number g (feat q j))) (sym (place_none (features_of g q) name (λ j m.
     let h = key-at 0 g q j (key_of blank) m in

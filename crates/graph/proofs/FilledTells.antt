@@ -7,14 +7,14 @@ use Rattle.records.specs.Graphs.{dependency, feature, Graph}
 use Rattle.graph.specs.declared.filled.Filled.{Filled}
 use Rattle.graph.specs.declared.tables.Directory.{Directory}
 use Rattle.graph.specs.Depending.{Depending, depending, Indexed}
-use Rattle.graph.specs.Directory.{Tells, no_package, no_part, no_depending, no_placed}
-use Rattle.graph.specs.Laying.{its, ReadsAs, PlacedAs}
+use Rattle.graph.specs.Directory.{Tells, no_package, no_declaration_entry, no_depending, no_place}
+use Rattle.graph.specs.RowLists.{its, ReadsAs, PlacedAs}
 use Rattle.graph.specs.Law.{dependency_count, feature_count}
 use Rattle.graph.specs.Places.{feat, dependencies_of, features_of, proc_of, number, dependencies_before, features_before, no_dependency, no_feature}
 use Rattle.graph.specs.Buckets.{past, newest_of, IsEntry}
 use Rattle.graph.specs.Namesakes.{among_from, namesakes}
 use Rattle.graph.specs.Rules.{place_of}
-use Rattle.graph.specs.Second.{placed}
+use Rattle.graph.specs.Second.{declaration_places}
 use Rattle.graph.proofs.DependingPlaces.{depending-at, depending-length, all-namesakes}
 use Rattle.graph.proofs.NamesakesLeft.{all-named, from_end, from-newest, next-left}
 use Rattle.graph.proofs.FeaturePlaces.{finds-item}
@@ -94,7 +94,7 @@ module _ (x : Filled) where
   pub feature-read : (p k : ℕ) → k < length (features_of graph p) → ReadsAs x (get_or dir.features (features_before graph p + k) 0) (feature (get_or (features_of graph p) k no_feature))
   feature-read p k l = from-tables (option-set _ _) (λ t. stands-reads _ _ _ (t.featuring p k l))
 
-  pub part-placed : (j : ℕ) → j < length (placed graph) → PlacedAs x (get_or dir.parts j no_part) (get_or (placed graph) j no_placed)
+  pub part-placed : (j : ℕ) → j < length (declaration_places graph) → PlacedAs x (get_or dir.declarations j no_declaration_entry) (get_or (declaration_places graph) j no_place)
   part-placed j l =
       let e = from-tables (hlevel props) (λ t. ap (λ y. y.start) (t.parted j l).1) in (
         e,

@@ -11,15 +11,15 @@ use Rattle.records.specs.declared.faults.RecordFault.TheVariants.{Cut, Stray, Ra
 use Rattle.records.specs.declared.frames.Kind.{Kind}
 use Rattle.records.specs.declared.frames.Kind.TheVariants as kind
 use Rattle.records.specs.Frames.{Frame, frame_of, of_length, inside}
-use Rattle.records.specs.Fields.{View, Field, on_ok, and_then, byte_of, byte_field, word_of, word_field, string_of, string_field, or_text, name_of, name_field, form_of, form_field, switch_at, switch_field, edge_at, edge_field, closed_of, closed_field, version_at, header_field}
+use Rattle.records.specs.Fields.{View, Field, on_ok, and_then, byte_of, byte_field, word_of, word_field, string_of, string_field, or_text, name_from, name_field, form_from, form_field, switch_at, switch_field, edge_at, edge_field, closed_of, closed_field, version_at, header_field}
 use Rattle.records.specs.Bodies.{many, name_text, form_text, names_field, forms_field, values_field, package_field, dependency_field}
 use Rattle.graph.specs.declared.faults.InRecord.{InRecord}
 use Rattle.graph.specs.declared.faults.FileFault.{FileFault}
 use Rattle.graph.specs.declared.faults.FileFault.TheVariants.{Record, Size, Rows, Memory}
 use Rattle.graph.specs.OpeningLaw.{Behind}
 use Rattle.graph.specs.Keys.{Key, has_key}
-use Rattle.graph.specs.Limits.{most_packages, most_dependencies, most_features}
-use Rattle.graph.specs.Reading.{Content, header, heads, part, end, Stand, Found, Rest, Reading, begin, kind_here, as_content, fresh, feature_field, content_as, content_of, with_content, with_frame, record_at, after, on_rest, carried, on_found, one_record, at_most, scan}
+use Rattle.graph.specs.Limits.{max_packages, max_dependencies, max_features}
+use Rattle.graph.specs.Reading.{Content, header, heads, declaration, end, Cursor, ReadRecord, Rest, Reading, begin, kind_here, as_content, fresh, feature_field, content_as, content_of, with_content, with_frame, record_at, after, on_rest, carried, on_found, one_record, at_most, scan}
 
 -- a fault of a record that the first reading may find
 abbrev pub Early : RecordFault → Type 0
@@ -83,10 +83,10 @@ fine-header : FineField header_field
 fine-header v = fine-then word_field (version_at v.place) (λ w. fine_word w.left w.place) (λ x w. fine-cond (eqb x 1) _ _ (fine_closed w.left w.place) tt) v
 
 fine-name : FineField name_field
-fine-name = fine-then string_field (λ p. or_text (name_of p)) (λ v. fine-string v.left v.place) (λ p. fine_text (name_of p))
+fine-name = fine-then string_field (λ p. or_text (name_from p)) (λ v. fine-string v.left v.place) (λ p. fine_text (name_from p))
 
 fine-form : FineField form_field
-fine-form = fine-then string_field (λ p. or_text (form_of p)) (λ v. fine-string v.left v.place) (λ p. fine_text (form_of p))
+fine-form = fine-then string_field (λ p. or_text (form_from p)) (λ v. fine-string v.left v.place) (λ p. fine_text (form_from p))
 
 fine-many : {A : Type 0} (m : Field A) → FineField m → (n : ℕ) → FineField (many m n)
 fine-many m h zero v = tt
@@ -128,12 +128,12 @@ fine_content : {A : Type 0} (f : A → Content) (r : Result (A × View) RecordFa
 fine_content f (Ok p) h = tt
 fine_content f (Err e) h = h
 
-fine-as : (k : Option Kind) (st : Stand) (v : View) → Fine (content_as k st v)
+fine-as : (k : Option Kind) (st : Cursor) (v : View) → Fine (content_as k st v)
 fine-as None st v = tt
 fine-as (Some kind.Header) st v = fine_content _ _ (fine-header v)
-fine-as (Some kind.Package) st v = fine-cond (leb most_packages st.packages) _ _ tt (fine_content _ _ (fine-package v))
-fine-as (Some kind.Dependency) st v = fine-cond (leb most_dependencies st.dependencies) _ _ tt (fine_content _ _ (fine-dependency v))
-fine-as (Some kind.Feature) st v = fine-cond (leb most_features (length st.keys)) _ _ tt (fine_content _ _ (fine-feature st.keys (st.packages - 1) v))
+fine-as (Some kind.Package) st v = fine-cond (leb max_packages st.packages) _ _ tt (fine_content _ _ (fine-package v))
+fine-as (Some kind.Dependency) st v = fine-cond (leb max_dependencies st.dependencies) _ _ tt (fine_content _ _ (fine-dependency v))
+fine-as (Some kind.Feature) st v = fine-cond (leb max_features (length st.keys)) _ _ tt (fine_content _ _ (fine-feature st.keys (st.packages - 1) v))
 fine-as (Some kind.End) st v = fine_content _ _ (fine_closed v.left v.place)
 
 fine_inside : (bs after : List ℕ) → Fine (inside bs after)
@@ -152,15 +152,15 @@ fine-frame (a ∷ b ∷ c ∷ []) = tt
 fine-frame (a ∷ b ∷ c ∷ d ∷ bs) = fine-length (a + b * 256 + c * 65536 + d * 16777216) bs
 
 -- a record with its number and start, and the whole reading
-abbrev FineRecord : Result Found InRecord → Type 0
+abbrev FineRecord : Result ReadRecord InRecord → Type 0
 FineRecord (Ok x) = Unit {0}
 FineRecord (Err e) = Early e.fault
 
-fine_with : (st : Stand) (f : Frame) (r : Result Content RecordFault) → Fine r → FineRecord (with_content st f r)
+fine_with : (st : Cursor) (f : Frame) (r : Result Content RecordFault) → Fine r → FineRecord (with_content st f r)
 fine_with st f (Ok c) h = tt
 fine_with st f (Err e) h = h
 
-fine-record : (st : Stand) (bs : List ℕ) → FineRecord (record_at st bs)
+fine-record : (st : Cursor) (bs : List ℕ) → FineRecord (record_at st bs)
 fine-record st bs = go (frame_of bs) (fine-frame bs)
   where
     go : (r : Result Frame RecordFault) → Fine r → FineRecord (with_frame st r)
@@ -181,47 +181,47 @@ fine-rest : (F : Rest → Rest) (r : Reading) → FineReading r → FineReading 
 fine-rest F (Ok p) h = tt
 fine-rest F (Err e) h = h
 
-fine-carried : (st : Stand) (x : Found) (c : Content) (r : Reading) → FineReading r → FineReading (carried st x c r)
+fine-carried : (st : Cursor) (x : ReadRecord) (c : Content) (r : Reading) → FineReading r → FineReading (carried st x c r)
 fine-carried st x header r h = h
 fine-carried st x (heads y) r h = fine-rest _ r h
-fine-carried st x (part p) r h = fine-rest _ r h
+fine-carried st x (declaration p) r h = fine-rest _ r h
 fine-carried st x end r h = tt
 
-fine-one : (k : Stand → List ℕ → Reading) → ((st : Stand) (bs : List ℕ) → FineReading (k st bs)) → (st : Stand) (bs : List ℕ) → FineReading (one_record k st bs)
+fine-one : (k : Cursor → List ℕ → Reading) → ((st : Cursor) (bs : List ℕ) → FineReading (k st bs)) → (st : Cursor) (bs : List ℕ) → FineReading (one_record k st bs)
 fine-one k h st bs = go (record_at st bs) (fine-record st bs)
   where
-    go : (r : Result Found InRecord) → FineRecord r → FineReading (on_found st k r)
+    go : (r : Result ReadRecord InRecord) → FineRecord r → FineReading (on_found st k r)
     go (Ok x) q = fine-carried st x x.content (k (after st x) x.frame.after) (h (after st x) x.frame.after)
     go (Err e) q = q
 
-fine-most : (n : ℕ) (st : Stand) (bs : List ℕ) → FineReading (at_most n st bs)
+fine-most : (n : ℕ) (st : Cursor) (bs : List ℕ) → FineReading (at_most n st bs)
 unfolding at_most
 fine-most zero st bs = tt
 fine-most (suc n) st bs = fine-one (at_most n) (fine-most n) st bs
 
-fine-scan : (st : Stand) (bs : List ℕ) → FineReading (scan st bs)
+fine-scan : (st : Cursor) (bs : List ℕ) → FineReading (scan st bs)
 unfolding scan
 fine-scan st bs = fine-most (suc (length bs)) st bs
 
-pub first-faults : (st : Stand) (bs : List ℕ) (e : FileFault) → scan st bs ≡ Err e → FineFile e
+pub first-faults : (st : Cursor) (bs : List ℕ) (e : FileFault) → scan st bs ≡ Err e → FineFile e
 first-faults st bs e h = subst FineReading h (fine-scan st bs)
 
 -- the record at fault begins behind those that were read before it
-record Onward (st : Stand) (bs : List ℕ) (number start : ℕ) : Type 0 where
+record Onward (st : Cursor) (bs : List ℕ) (number start : ℕ) : Type 0 where
   records : List (ℕ × List ℕ)
   rest : List ℕ
   bytes : bs ≡ flat_map (λ r. record_bytes r.0 r.1) records ++ rest
   number_is : number ≡ st.number + length records
   start_is : start ≡ st.start + length (flat_map (λ r. record_bytes r.0 r.1) records)
 
-abbrev OnwardAt : Stand → List ℕ → InRecord → Type 0
+abbrev OnwardAt : Cursor → List ℕ → InRecord → Type 0
 OnwardAt st bs x = Onward st bs x.number x.start
 
-stays : (st : Stand) (bs : List ℕ) → Onward st bs st.number st.start
+stays : (st : Cursor) (bs : List ℕ) → Onward st bs st.number st.start
 stays st bs = record { records = []; rest = bs; bytes = refl; number_is = omega arith; start_is = omega arith }
 
 -- one record more in front
-behind-one : (st : Stand) (c : Content) (bs : List ℕ) (f : Frame) (number start : ℕ) → bs ≡ record_bytes f.kind f.body ++ f.after → Onward (after st (record { content = c; frame = f })) f.after number start → Onward st bs number start
+behind-one : (st : Cursor) (c : Content) (bs : List ℕ) (f : Frame) (number start : ℕ) → bs ≡ record_bytes f.kind f.body ++ f.after → Onward (after st (record { content = c; frame = f })) f.after number start → Onward st bs number start
 behind-one st c bs f number start e o =
     let own : List ℕ = record_bytes f.kind f.body in
     let more : List ℕ = flat_map (λ r. record_bytes r.0 r.1) o.records in
@@ -238,21 +238,21 @@ rest-refused : (F : Rest → Rest) (r : Reading) (x : InRecord) → on_rest F r 
 rest-refused F (Ok p) x e = absurd (not-both (sym e))
 rest-refused F (Err y) x e = ap (λ z. Err z) (in-err _ _ e)
 
-carried-refused : (st : Stand) (f : Found) (c : Content) (r : Reading) (x : InRecord) → carried st f c r ≡ Err (Record x) → r ≡ Err (Record x)
+carried-refused : (st : Cursor) (f : ReadRecord) (c : Content) (r : Reading) (x : InRecord) → carried st f c r ≡ Err (Record x) → r ≡ Err (Record x)
 carried-refused st f header r x e = e
 carried-refused st f (heads y) r x e = rest-refused _ r x e
-carried-refused st f (part p) r x e = rest-refused _ r x e
+carried-refused st f (declaration p) r x e = rest-refused _ r x e
 carried-refused st f end r x e = absurd (not-both (sym e))
 
 of_record : (x y : InRecord) → ◌≡◌ {A = Reading} (Err (Record x)) (Err (Record y)) → x ≡ y
 of_record x y e = cc
 
-module _ (k : Stand → List ℕ → Reading) (ih : (st : Stand) (bs : List ℕ) (x : InRecord) → Bytes bs → k st bs ≡ Err (Record x) → OnwardAt st bs x) (st : Stand) (bs : List ℕ) (x : InRecord) (fit : Bytes bs) where
+module _ (k : Cursor → List ℕ → Reading) (ih : (st : Cursor) (bs : List ℕ) (x : InRecord) → Bytes bs → k st bs ≡ Err (Record x) → OnwardAt st bs x) (st : Cursor) (bs : List ℕ) (x : InRecord) (fit : Bytes bs) where
   by_frame : (f : Frame) → frame_of bs ≡ Ok f → (r : Result Content RecordFault) → on_found st k (with_content st f r) ≡ Err (Record x) → OnwardAt st bs x
   by_frame f q (Err e) h = subst (OnwardAt st bs) (of_record _ _ h) (stays st bs)
   by_frame f q (Ok c) h =
       let says = frame-says bs f fit q in
-      let y : Found = record { content = c; frame = f } in
+      let y : ReadRecord = record { content = c; frame = f } in
       behind-one st c bs f x.number x.start says (ih (after st y) f.after x (bytes-split (record_bytes f.kind f.body) f.after (subst Bytes says fit)).1 (carried-refused st y c _ x h))
 
   behind-record : on_found st k (record_at st bs) ≡ Err (Record x) → OnwardAt st bs x
@@ -262,12 +262,12 @@ module _ (k : Stand → List ℕ → Reading) (ih : (st : Stand) (bs : List ℕ)
       go (Ok f) q e = by_frame f q (content_of st f) e
       go (Err y) q e = subst (OnwardAt st bs) (of_record _ _ e) (stays st bs)
 
-behind-most : (n : ℕ) (st : Stand) (bs : List ℕ) (x : InRecord) → Bytes bs → at_most n st bs ≡ Err (Record x) → OnwardAt st bs x
+behind-most : (n : ℕ) (st : Cursor) (bs : List ℕ) (x : InRecord) → Bytes bs → at_most n st bs ≡ Err (Record x) → OnwardAt st bs x
 unfolding at_most
 behind-most zero st bs x fit e = subst (OnwardAt st bs) (of_record _ _ e) (stays st bs)
 behind-most (suc n) st bs x fit e = behind-record (at_most n) (behind-most n) st bs x fit e
 
-behind-scan : (st : Stand) (bs : List ℕ) (x : InRecord) → Bytes bs → scan st bs ≡ Err (Record x) → OnwardAt st bs x
+behind-scan : (st : Cursor) (bs : List ℕ) (x : InRecord) → Bytes bs → scan st bs ≡ Err (Record x) → OnwardAt st bs x
 unfolding scan
 behind-scan st bs x fit e = behind-most (suc (length bs)) st bs x fit e
 

@@ -12,38 +12,38 @@ use Rattle.graph.specs.declared.faults.FileFault.{FileFault}
 use Rattle.graph.specs.declared.faults.FileFault.TheVariants.{Record}
 use Rattle.graph.specs.declared.contents.Content as code
 use Rattle.graph.specs.declared.contents.Content.TheVariants as variant
-use Rattle.graph.specs.declared.contents.Found as found
+use Rattle.graph.specs.declared.contents.ReadRecord as found
 use Rattle.graph.specs.Keys.{Key}
-use Rattle.graph.specs.Reading.{Content, header, heads, part, end, Stand, Found, Reading, content_of, with_content, with_frame, record_at, is_end, packages_after, dependencies_after, after, carried, on_found, scan}
+use Rattle.graph.specs.Reading.{Content, header, heads, declaration, end, Cursor, ReadRecord, Reading, content_of, with_content, with_frame, record_at, is_end, packages_after, dependencies_after, after, carried, on_found, scan}
 use Rattle.graph.specs.Law.{dependencies_in, dependency_count}
 use Rattle.graph.specs.Gathered.{Gathered, gathered, keys_in, keys_from}
-use Rattle.graph.specs.Views.{content_view, found_view, Fits}
+use Rattle.graph.specs.Views.{content_view, read_record_view, Fits}
 use Rattle.graph.proofs.Founds.{feature-room}
 use Rattle.graph.proofs.Scans.{scan-open, frame-shorter}
 
 -- one record more is gathered from what is left
-pub gathered-more : (st : Stand) (f : Frame) (c : Content) (r : Reading) → is_end c ≡ false → gathered st (carried st (record { content = c; frame = f }) c r) ≡ gathered (after st (record { content = c; frame = f })) r
+pub gathered-more : (st : Cursor) (f : Frame) (c : Content) (r : Reading) → is_end c ≡ false → gathered st (carried st (record { content = c; frame = f }) c r) ≡ gathered (after st (record { content = c; frame = f })) r
 gathered-more st f header (Ok p) n = refl
 gathered-more st f header (Err e) n = refl
 gathered-more st f (heads h) (Ok p) n =
-    let a : st.packages + length (record { proc = h.proc; name = h.name; parts = p.0.parts } ∷ p.0.packages) ≡ (st.packages + 1) + length p.0.packages = omega arith in
-    let b : st.dependencies + (0 + (length (dependencies_in p.0.parts) + dependency_count p.0.packages)) ≡ st.dependencies + (length (dependencies_in p.0.parts) + dependency_count p.0.packages) = omega arith in
+    let a : st.packages + length (record { proc = h.proc; name = h.name; declarations = p.0.declarations } ∷ p.0.packages) ≡ (st.packages + 1) + length p.0.packages = omega arith in
+    let b : st.dependencies + (0 + (length (dependencies_in p.0.declarations) + dependency_count p.0.packages)) ≡ st.dependencies + (length (dependencies_in p.0.declarations) + dependency_count p.0.packages) = omega arith in
     let q : st.packages ≡ (st.packages + 1) - 1 = omega arith in
-    λ i. Ok (record { read = p.1; packages = a i; dependencies = b i; keys = st.keys ++ (keys_in (q i) p.0.parts ++ keys_from (st.packages + 1) p.0.packages) })
+    λ i. Ok (record { read = p.1; packages = a i; dependencies = b i; keys = st.keys ++ (keys_in (q i) p.0.declarations ++ keys_from (st.packages + 1) p.0.packages) })
 gathered-more st f (heads h) (Err e) n = refl
-gathered-more st f (part (dependency d)) (Ok p) n =
-    let b : st.dependencies + (length (d ∷ dependencies_in p.0.parts) + dependency_count p.0.packages) ≡ (st.dependencies + 1) + (length (dependencies_in p.0.parts) + dependency_count p.0.packages) = omega arith in
-    λ i. Ok (record { read = p.1; packages = st.packages + length p.0.packages; dependencies = b i; keys = st.keys ++ (keys_in (st.packages - 1) p.0.parts ++ keys_from st.packages p.0.packages) })
-gathered-more st f (part (dependency d)) (Err e) n = refl
-gathered-more st f (part (feature x)) (Ok p) n =
+gathered-more st f (declaration (dependency d)) (Ok p) n =
+    let b : st.dependencies + (length (d ∷ dependencies_in p.0.declarations) + dependency_count p.0.packages) ≡ (st.dependencies + 1) + (length (dependencies_in p.0.declarations) + dependency_count p.0.packages) = omega arith in
+    λ i. Ok (record { read = p.1; packages = st.packages + length p.0.packages; dependencies = b i; keys = st.keys ++ (keys_in (st.packages - 1) p.0.declarations ++ keys_from st.packages p.0.packages) })
+gathered-more st f (declaration (dependency d)) (Err e) n = refl
+gathered-more st f (declaration (feature x)) (Ok p) n =
     let k : Key = record { owner = st.packages - 1; name = x.name } in
-    let q = sym (append_assoc st.keys (k ∷ []) (keys_in (st.packages - 1) p.0.parts ++ keys_from st.packages p.0.packages)) in
-    λ i. Ok (record { read = p.1; packages = st.packages + length p.0.packages; dependencies = st.dependencies + (length (dependencies_in p.0.parts) + dependency_count p.0.packages); keys = q i })
-gathered-more st f (part (feature x)) (Err e) n = refl
+    let q = sym (append_assoc st.keys (k ∷ []) (keys_in (st.packages - 1) p.0.declarations ++ keys_from st.packages p.0.packages)) in
+    λ i. Ok (record { read = p.1; packages = st.packages + length p.0.packages; dependencies = st.dependencies + (length (dependencies_in p.0.declarations) + dependency_count p.0.packages); keys = q i })
+gathered-more st f (declaration (feature x)) (Err e) n = refl
 gathered-more st f end r n = absurd (true≢false n)
 
 -- what a record that is found is made of
-pub found-parts : (st : Stand) (bs : List ℕ) (x : Found) → record_at st bs ≡ Ok x → (frame_of bs ≡ Ok x.frame) × (content_of st x.frame ≡ Ok x.content)
+pub found-parts : (st : Cursor) (bs : List ℕ) (x : ReadRecord) → record_at st bs ≡ Ok x → (frame_of bs ≡ Ok x.frame) × (content_of st x.frame ≡ Ok x.content)
 found-parts st bs x e = go (frame_of bs) refl e
   where
     inner : (f : Frame) → frame_of bs ≡ Ok f → (r : Result Content RecordFault) → content_of st f ≡ r → with_content st f r ≡ Ok x → (frame_of bs ≡ Ok x.frame) × (content_of st x.frame ≡ Ok x.content)
@@ -56,7 +56,7 @@ found-parts st bs x e = go (frame_of bs) refl e
     go (Ok f) q h = inner f q (content_of st f) refl h
     go (Err y) q h = absurd (not-both h)
 
-module _ (file : List ℕ) (st : Stand) (all : Result Gathered FileFault) (inv : gathered st (scan st (drop st.start file)) ≡ all) where
+module _ (file : List ℕ) (st : Cursor) (all : Result Gathered FileFault) (inv : gathered st (scan st (drop st.start file)) ≡ all) where
   opened : gathered st (on_found st scan (record_at st (drop st.start file))) ≡ all
   opened = ap (gathered st) (sym (scan-open st (drop st.start file))) ∙ inv
 
@@ -65,10 +65,10 @@ module _ (file : List ℕ) (st : Stand) (all : Result Gathered FileFault) (inv :
   loop-stops e h = ap (λ r. gathered st (on_found st scan r)) (sym h) ∙ opened
 
   -- the record after this one lies in the file
-  pub next-within : (x : Found) → record_at st (drop st.start file) ≡ Ok x → st.start ≤ length file → st.start + (length x.frame.body + 6) ≤ length file
+  pub next-within : (x : ReadRecord) → record_at st (drop st.start file) ≡ Ok x → st.start ≤ length file → st.start + (length x.frame.body + 6) ≤ length file
   next-within x h l = omega (arith, (frame-shorter (drop st.start file) x.frame (found-parts st (drop st.start file) x h).0).1, length-drop st.start file)
 
-  pub loop-goes : (x : Found) → record_at st (drop st.start file) ≡ Ok x → is_end x.content ≡ false → gathered (after st x) (scan (after st x) (drop (after st x).start file)) ≡ all
+  pub loop-goes : (x : ReadRecord) → record_at st (drop st.start file) ≡ Ok x → is_end x.content ≡ false → gathered (after st x) (scan (after st x) (drop (after st x).start file)) ≡ all
   loop-goes x h n =
       let f = (found-parts st (drop st.start file) x h).0 in
       let rest : x.frame.after ≡ drop (after st x).start file = (frame-shorter (drop st.start file) x.frame f).0 ∙ drop-drop (length x.frame.body + 6) st.start file in
@@ -77,13 +77,13 @@ module _ (file : List ℕ) (st : Stand) (all : Result Gathered FileFault) (inv :
       ∙ ap (λ r. gathered st (on_found st scan r)) (sym h)
       ∙ opened
 
-  pub loop-ends : (x : Found) → record_at st (drop st.start file) ≡ Ok x → is_end x.content ≡ true → ◌≡◌ {A = Result Gathered FileFault} (Ok (record { read = st.start + (length x.frame.body + 6); packages = st.packages; dependencies = st.dependencies; keys = st.keys })) all
+  pub loop-ends : (x : ReadRecord) → record_at st (drop st.start file) ≡ Ok x → is_end x.content ≡ true → ◌≡◌ {A = Result Gathered FileFault} (Ok (record { read = st.start + (length x.frame.body + 6); packages = st.packages; dependencies = st.dependencies; keys = st.keys })) all
   loop-ends x h n = ended x.content n ∙ ap (λ r. gathered st (on_found st scan r)) (sym h) ∙ opened
     where
       ended : (c : Content) → is_end c ≡ true → ◌≡◌ {A = Result Gathered FileFault} (Ok (record { read = st.start + (length x.frame.body + 6); packages = st.packages; dependencies = st.dependencies; keys = st.keys })) (gathered st (carried st x c (scan (after st x) x.frame.after)))
       ended header t = absurd (false≢true t)
       ended (heads y) t = absurd (false≢true t)
-      ended (part y) t = absurd (false≢true t)
+      ended (declaration y) t = absurd (false≢true t)
       ended end t =
           let a : st.packages ≡ st.packages + 0 = omega arith in
           let b : st.dependencies ≡ st.dependencies + (0 + 0) = omega arith in
@@ -92,19 +92,19 @@ module _ (file : List ℕ) (st : Stand) (all : Result Gathered FileFault) (inv :
 pub packages-step : (c : Content) (n : ℕ) → packages_after c n ≤ n + 1
 packages-step header n = omega arith
 packages-step (heads h) n = omega arith
-packages-step (part p) n = omega arith
+packages-step (declaration p) n = omega arith
 packages-step end n = omega arith
 
 pub dependencies-step : (c : Content) (n : ℕ) → dependencies_after c n ≤ n + 1
 dependencies-step header n = omega arith
 dependencies-step (heads h) n = omega arith
-dependencies-step (part (dependency d)) n = omega arith
-dependencies-step (part (feature f)) n = omega arith
+dependencies-step (declaration (dependency d)) n = omega arith
+dependencies-step (declaration (feature f)) n = omega arith
 dependencies-step end n = omega arith
 
 -- a feature that is found has room in the index
-pub found-fits : (st : Stand) (bs : List ℕ) (x : found.Found) → record_at st bs ≡ Ok (found_view x) → Fits (length st.keys) x.content
-found-fits st bs x h = go x.content (found-parts st bs (found_view x) h).1
+pub found-fits : (st : Cursor) (bs : List ℕ) (x : found.ReadRecord) → record_at st bs ≡ Ok (read_record_view x) → Fits (length st.keys) x.content
+found-fits st bs x h = go x.content (found-parts st bs (read_record_view x) h).1
   where
     go : (c : code.Content) → content_of st (frame x.frame) ≡ Ok (content_view c) → Fits (length st.keys) c
     go variant.Header e = tt

@@ -2,7 +2,7 @@
 use Rattle.std.proofs.Common.{◌≡◌, ℕ, suc, ◌+◌, Bool, true, false, cond, ltb, List, [], ◌∷◌, length, get_or, Ok, Err, sym, refl, ap, ◌∙◌, subst, arith, w8, Fits}
 use Rattle.std.proofs.lemmas.List.{length-append}
 use Rattle.std.proofs.lemmas.Bool.{cond-false, le-ltb}
-use Rattle.records.specs.Graphs.{Part, dependency, feature, Graph}
+use Rattle.records.specs.Graphs.{Declaration, dependency, feature, Graph}
 use Rattle.records.specs.Encoding.{Bytes}
 use Rattle.records.proofs.Numbers.{not-both, in-ok}
 use Rattle.graph.specs.declared.contents.Counts.{Counts}
@@ -10,7 +10,7 @@ use Rattle.graph.specs.declared.faults.FileFault.{FileFault}
 use Rattle.graph.specs.declared.faults.FileFault.TheVariants.{Size}
 use Rattle.graph.specs.declared.index.Index.{Index}
 use Rattle.graph.specs.Reading.{begin, Reading, scan, graph_in, first_reading}
-use Rattle.graph.specs.Limits.{most_bytes}
+use Rattle.graph.specs.Limits.{max_bytes}
 use Rattle.graph.specs.Law.{features_in, dependency_count, feature_count, Says}
 use Rattle.graph.specs.Gathered.{keys_in, keys_from, Gathered, gathered, gathered_in, gathered_by}
 use Rattle.graph.specs.Views.{keys}
@@ -25,14 +25,14 @@ bytes_fit [] h = tt
 bytes_fit (b ∷ bs) h = (omega (arith, h 0), bytes_fit bs (λ i. h (suc i)))
 
 -- as many keys as features
-own_keys : (p : ℕ) (ps : List Part) → length (keys_in p ps) ≡ length (features_in ps)
+own_keys : (p : ℕ) (ps : List Declaration) → length (keys_in p ps) ≡ length (features_in ps)
 own_keys p [] = refl
 own_keys p (dependency x ∷ ps) = own_keys p ps
 own_keys p (feature x ∷ ps) = omega (arith, own_keys p ps)
 
 pub keys-count : (p : ℕ) (g : Graph) → length (keys_from p g) ≡ feature_count g
 keys-count p [] = refl
-keys-count p (a ∷ g) = omega (arith, length-append (keys_in p a.parts) (keys_from (p + 1) g), own_keys p a.parts, keys-count (p + 1) g)
+keys-count p (a ∷ g) = omega (arith, length-append (keys_in p a.declarations) (keys_from (p + 1) g), own_keys p a.declarations, keys-count (p + 1) g)
 
 -- all that is gathered of a graph of n bytes
 abbrev pub all_of : Graph → ℕ → Gathered
@@ -46,13 +46,13 @@ scan-keyed file fit g n e =
     ap (gathered begin) (scan-complete file g s.0) ∙ (λ i. Ok (record { read = sym s.1 i; packages = p i; dependencies = d i; keys = keys_from 0 g }))
 
 pub keyed : (file : List ℕ) → Bytes file → (g : Graph) (n : ℕ) → first_reading file ≡ Ok (g, n) → gathered_in file ≡ Ok (all_of g n)
-keyed file fit g n e = cond-false _ _ _ (le-ltb most_bytes (length file) (first-sound file fit g n e).0.size) ∙ scan-keyed file fit g n e
+keyed file fit g n e = cond-false _ _ _ (le-ltb max_bytes (length file) (first-sound file fit g n e).0.size) ∙ scan-keyed file fit g n e
 
 -- where something is gathered, a graph is read
 pub gathered-read : (file : List ℕ) (x : Gathered) → gathered_in file ≡ Ok x → (g : Graph) × (n : ℕ) × (first_reading file ≡ Ok (g, n))
-gathered-read file x e = go (ltb most_bytes (length file)) refl (scan begin file) refl e
+gathered-read file x e = go (ltb max_bytes (length file)) refl (scan begin file) refl e
   where
-    go : (t : Bool) → ltb most_bytes (length file) ≡ t → (r : Reading) → scan begin file ≡ r → cond t (Err Size) (gathered begin r) ≡ Ok x → (g : Graph) × (n : ℕ) × (first_reading file ≡ Ok (g, n))
+    go : (t : Bool) → ltb max_bytes (length file) ≡ t → (r : Reading) → scan begin file ≡ r → cond t (Err Size) (gathered begin r) ≡ Ok x → (g : Graph) × (n : ℕ) × (first_reading file ≡ Ok (g, n))
     go true q r o h = absurd (not-both h)
     go false q (Err f) o h = absurd (not-both h)
     go false q (Ok p) o h = (p.0.packages, p.1, cond-false _ _ _ q ∙ ap graph_in o)

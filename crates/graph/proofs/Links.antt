@@ -5,10 +5,10 @@ use Rattle.std.proofs.lemmas.Option.{none-some, same_Some}
 use Rattle.std.proofs.lemmas.List.{length-replicate, get_or-set_same, get_or-set_other, length-set, length-map, length-take-le, get_or-map, get_or-take}
 use Rattle.std.proofs.lemmas.Bool.{cond-true, cond-false, eqb-true, and_parts, cases_Bool, cases_eq, cases_lt, or_from, or_left, or_right}
 use Rattle.std.specs.Str.{bytes_eq}
-use Rattle.graph.specs.declared.index.Entry.{Entry}
+use Rattle.graph.specs.declared.index.IndexEntry.{IndexEntry}
 use Rattle.graph.specs.Keys.{Key, is_key, has_key}
 use Rattle.graph.specs.Buckets.{bucket_of, key_of, blank, entry_at, keys_of, bucket_at, past, Linked, newest_of, IsEntry, InBucket}
-use Rattle.graph.specs.Limits.{most_features}
+use Rattle.graph.specs.Limits.{max_features}
 
 -- at any place, where the library's `get_or-replicate` asks for one inside
 pub nones : (n h : ℕ) → ◌≡◌ {A = Option ℕ} (get_or (replicate n None) h None) None
@@ -17,7 +17,7 @@ nones (suc n) zero = refl
 nones (suc n) (suc h) = nones n h
 
 -- the lists of no entries, which are blank entries
-pub linked-none : (m : ℕ) (e : Entry) (heads : List (Option ℕ)) → m ≡ most_features → ((h : ℕ) → get_or heads h None ≡ None) → Linked (replicate m e) heads 0
+pub linked-none : (m : ℕ) (e : IndexEntry) (heads : List (Option ℕ)) → m ≡ max_features → ((h : ℕ) → get_or heads h None ≡ None) → Linked (replicate m e) heads 0
 linked-none m e heads f z = record {
   full = length-replicate m e ∙ f;
   newest = λ k l. absurd (omega arith);
@@ -35,7 +35,7 @@ key-bucket owner name k e =
     λ i. bucket_of (o i) (n i)
 
 -- what a search among the first n entries finds
-abbrev pub Finds : List Entry → ℕ → ℕ → List ℕ → Option ℕ → Type 0
+abbrev pub Finds : List IndexEntry → ℕ → ℕ → List ℕ → Option ℕ → Type 0
 Finds entries n owner name None = (k : ℕ) → k < n → is_key owner name (key_of (entry_at entries k)) ≡ false
 Finds entries n owner name (Some k) = IsEntry entries n owner name k
 
@@ -44,7 +44,7 @@ past-below : (o : Option ℕ) (k : ℕ) → ((j : ℕ) → o ≡ Some j → j < 
 past-below None k f = omega arith
 past-below (Some j) k f = omega (arith, f j refl)
 
-module _ (entries : List Entry) (owner : ℕ) (name : List ℕ) where
+module _ (entries : List IndexEntry) (owner : ℕ) (name : List ℕ) where
   -- whether entry k has the key
   abbrev here : ℕ → Bool
   here k = is_key owner name (key_of (entry_at entries k))
@@ -76,7 +76,7 @@ module _ (entries : List Entry) (owner : ℕ) (name : List ℕ) where
       let z : lo + (hi - lo) ≡ hi = omega arith in
       sym (skips lo (hi - lo) (λ k a b. h k a (omega arith))) ∙ ap (newest_of entries owner name) z
 
-module _ (entries : List Entry) (heads : List (Option ℕ)) (n : ℕ) (linked : Linked entries heads n) (owner : ℕ) (name : List ℕ) where
+module _ (entries : List IndexEntry) (heads : List (Option ℕ)) (n : ℕ) (linked : Linked entries heads n) (owner : ℕ) (name : List ℕ) where
   -- a search begins at the head of the bucket
   pub head-in : (b : ℕ) → b ≡ bucket_of owner name → InBucket entries n owner name (get_or heads b None)
   head-in b e = go (get_or heads b None) refl
@@ -129,7 +129,7 @@ module _ (entries : List Entry) (heads : List (Option ℕ)) (n : ℕ) (linked : 
     search-goes all e f = (next-in k at-entry.0 at-entry.1, next-newest k at-entry.0 at-entry.1 ∙ sym (cond-false _ _ _ f) ∙ sym more ∙ e)
 
 -- one entry more
-module _ (entries : List Entry) (heads : List (Option ℕ)) (n : ℕ) (linked : Linked entries heads n) (e : Entry) (h : ℕ)
+module _ (entries : List IndexEntry) (heads : List (Option ℕ)) (n : ℕ) (linked : Linked entries heads n) (e : IndexEntry) (h : ℕ)
     (room : n < length entries) (among : h < length heads) (mine : h ≡ bucket_of (key_of e).owner (key_of e).name)
     (onward : e.next ≡ get_or heads h None) where
   new-entry : entry_at (set entries n e) n ≡ e
@@ -216,16 +216,16 @@ has_some owner name [] d k l e = absurd (omega arith)
 has_some owner name (x ∷ ks) d zero l e = or_left (is_key owner name x) (has_key owner name ks) e
 has_some owner name (x ∷ ks) d (suc k) l e = or_right (is_key owner name x) (has_key owner name ks) (has_some owner name ks d k (omega arith) e)
 
-pub keys_length : (entries : List Entry) (n : ℕ) → n ≤ length entries → length (keys_of entries n) ≡ n
+pub keys_length : (entries : List IndexEntry) (n : ℕ) → n ≤ length entries → length (keys_of entries n) ≡ n
 keys_length entries n l = length-map (take n entries) key_of ∙ length-take-le n entries l
 
-pub keys-at : (entries : List Entry) (n k : ℕ) → n ≤ length entries → k < n → get_or (keys_of entries n) k (key_of blank) ≡ key_of (entry_at entries k)
+pub keys-at : (entries : List IndexEntry) (n k : ℕ) → n ≤ length entries → k < n → get_or (keys_of entries n) k (key_of blank) ≡ key_of (entry_at entries k)
 keys-at entries n k l m =
     let w : k < length (take n entries) = omega (arith, length-take-le n entries l) in
     get_or-map key_of (take n entries) k blank (key_of blank) w ∙ ap key_of (get_or-take n entries k blank m)
 
 -- a search finds something exactly if there is a feature of that package and name
-pub finds-has : (entries : List Entry) (n owner : ℕ) (name : List ℕ) (r : Option ℕ) → n ≤ length entries → Finds entries n owner name r → is_some r ≡ has_key owner name (keys_of entries n)
+pub finds-has : (entries : List IndexEntry) (n owner : ℕ) (name : List ℕ) (r : Option ℕ) → n ≤ length entries → Finds entries n owner name r → is_some r ≡ has_key owner name (keys_of entries n)
 finds-has entries n owner name None l f =
     sym (has-none owner name (keys_of entries n) (key_of blank) (λ k m.
     let w : k < n = omega (arith, keys_length entries n l) in

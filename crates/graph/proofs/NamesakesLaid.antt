@@ -4,7 +4,7 @@ use Rattle.std.specs.List.{flat_map}
 use Rattle.std.specs.Str.{bytes_eq}
 use Rattle.records.specs.Graphs.{Dependency, Graph}
 use Rattle.graph.specs.declared.rows.Row.{Row}
-use Rattle.graph.specs.Laying.{one_named, each_named, switch_rows, weak_rows}
+use Rattle.graph.specs.RowLists.{one_named, each_named, switch_rows, weak_rows}
 use Rattle.graph.specs.Namesakes.{namesake, namesakes}
 use Rattle.graph.specs.Places.{dep, dependencies_of, features_of, number}
 use Rattle.graph.specs.Rules.{each, when}

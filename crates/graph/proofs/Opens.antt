@@ -13,9 +13,9 @@ use Rattle.graph.specs.declared.tables.Directory.{Directory}
 use Rattle.graph.specs.Depending.{Indexed}
 use Rattle.graph.specs.Directory.{Tells, ReadAs}
 use Rattle.graph.specs.Law.{Says, dependency_count, feature_count}
-use Rattle.graph.specs.Opening.{over, on_checked, on_graph, laid_for, open_graph, leaving, with_words}
+use Rattle.graph.specs.Opening.{over, on_checked, on_graph, words_for, open_graph, leaving, with_words}
 use Rattle.graph.specs.OpeningLaw.{OpeningLaw, RulesLaw}
-use Rattle.graph.specs.Parts.{graph_or, graph_of}
+use Rattle.graph.specs.Declarations.{graph_or, graph_of}
 use Rattle.graph.specs.Reading.{first_reading}
 use Rattle.graph.specs.Rules.{row_words, rows, graph_words}
 use Rattle.graph.specs.Second.{second_reading}
@@ -28,7 +28,7 @@ graph-read file g n e = ap graph_or e
 
 -- a first reading that is refused
 pub first-refused : (file words : List ℕ) (e : FileFault) → first_reading file ≡ Err e → open_graph file words ≡ Err e
-first-refused file words e h = ap (λ r. on_graph r (λ g n. on_checked (second_reading g) (laid_for g n words))) h
+first-refused file words e h = ap (λ r. on_graph r (λ g n. on_checked (second_reading g) (words_for g n words))) h
 
 -- one that is accepted
 module _ (file words : List ℕ) (dir : Directory) (read : ReadAs file (Ok tt) dir) where
@@ -44,16 +44,16 @@ module _ (file words : List ℕ) (dir : Directory) (read : ReadAs file (Ok tt) d
   pub named : Indexed dir.named its
   named = subst (Indexed dir.named) (sym graph) read.1.3
 
-  after_first : open_graph file words ≡ on_checked (second_reading (its)) (laid_for (its) dir.counts.read words)
+  after_first : open_graph file words ≡ on_checked (second_reading (its)) (words_for (its) dir.counts.read words)
   after_first =
-      ap (λ r. on_graph r (λ g n. on_checked (second_reading g) (laid_for g n words))) read.1.1
-      ∙ ap (λ g. on_checked (second_reading g) (laid_for g dir.counts.read words)) (sym graph)
+      ap (λ r. on_graph r (λ g n. on_checked (second_reading g) (words_for g n words))) read.1.1
+      ∙ ap (λ g. on_checked (second_reading g) (words_for g dir.counts.read words)) (sym graph)
 
   pub second-refused : (e : InRecord) → Err e ≡ second_reading (its) → open_graph file words ≡ Err (Record e)
-  second-refused e h = after_first ∙ ap (λ r. on_checked r (laid_for (its) dir.counts.read words)) (sym h)
+  second-refused e h = after_first ∙ ap (λ r. on_checked r (words_for (its) dir.counts.read words)) (sym h)
 
-  pub both-accept : Ok tt ≡ second_reading (its) → open_graph file words ≡ laid_for (its) dir.counts.read words
-  both-accept h = after_first ∙ ap (λ r. on_checked r (laid_for (its) dir.counts.read words)) (sym h)
+  pub both-accept : Ok tt ≡ second_reading (its) → open_graph file words ≡ words_for (its) dir.counts.read words
+  both-accept h = after_first ∙ ap (λ r. on_checked r (words_for (its) dir.counts.read words)) (sym h)
 
 -- the facts of an opening, from its equation
 with-left : (words : List ℕ) (q : Result (Opened × List ℕ) FileFault) → with_words (leaving words q).0 (leaving words q).1 ≡ q

@@ -2,12 +2,12 @@
 use Rattle.std.proofs.Common.{◌≡◌, ℕ, ◌+◌, List, length, drop, Some, Ok, sym, ap, ◌∙◌, append-nil}
 use Rattle.records.specs.Fields.{View, on_ok, and_then, give}
 use Rattle.records.specs.Bodies.{values_field}
-use Rattle.records.specs.Graphs.{Feature, Part, dependency, feature}
+use Rattle.records.specs.Graphs.{Feature, Declaration, dependency, feature}
 use Rattle.records.specs.Encoding.{string, list_bytes, value, dependency_body, feature_body, LawfulFeature}
 use Rattle.records.proofs.Framing.{frame-reads}
 use Rattle.records.proofs.Codes.{at}
 use Rattle.records.proofs.CodedFields.{name-coded, values-closed}
-use Rattle.graph.specs.Parts.{feature_again, or_none, part_as, part_in}
+use Rattle.graph.specs.Declarations.{feature_again, or_none, declaration_as, declaration_in}
 use Rattle.graph.specs.Directory.{RecordAt}
 use Rattle.graph.proofs.Allowances.{dependency-reads}
 
@@ -22,10 +22,10 @@ feature-reads f k l =
           ∙ ap (λ r. on_ok r (λ values. give (record { name = f.name; values = values }))) b,
     )
 
-pub stands-reads : (file : List ℕ) (start : ℕ) (p : Part) → RecordAt file start p → part_in (drop start file) ≡ Some p
+pub stands-reads : (file : List ℕ) (start : ℕ) (p : Declaration) → RecordAt file start p → declaration_in (drop start file) ≡ Some p
 stands-reads file start (dependency d) s =
     let r = dependency-reads d 6 s.lawful in
-    ap part_in s.bytes ∙ ap part_as (frame-reads 3 (dependency_body d) s.rest) ∙ ap (or_none dependency) r.1
+    ap declaration_in s.bytes ∙ ap declaration_as (frame-reads 3 (dependency_body d) s.rest) ∙ ap (or_none dependency) r.1
 stands-reads file start (feature f) s =
     let r = feature-reads f 6 s.lawful in
-    ap part_in s.bytes ∙ ap part_as (frame-reads 4 (feature_body f) s.rest) ∙ ap (or_none feature) r.1
+    ap declaration_in s.bytes ∙ ap declaration_as (frame-reads 4 (feature_body f) s.rest) ∙ ap (or_none feature) r.1

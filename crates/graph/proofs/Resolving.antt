@@ -10,79 +10,79 @@ use Rattle.text.specs.Forms.{Form, plain, switch, strong, weak, spell}
 use Rattle.records.proofs.Numbers.{not-both, in-err}
 use Rattle.records.specs.declared.faults.RecordFault.{RecordFault}
 use Rattle.records.specs.declared.faults.RecordFault.TheVariants.{Unknown}
-use Rattle.records.specs.Graphs.{Dependency, Feature, Part, dependency, feature, Graph}
-use Rattle.records.specs.Encoding.{part_bytes, header_bytes}
+use Rattle.records.specs.Graphs.{Dependency, Feature, Declaration, dependency, feature, Graph}
+use Rattle.records.specs.Encoding.{declaration_bytes, header_bytes}
 use Rattle.graph.specs.declared.faults.InRecord.{InRecord}
 use Rattle.graph.specs.Law.{dependencies_in, features_in, dependency_count, feature_count}
-use Rattle.graph.specs.Places.{parts_of, dependencies_of, features_of, no_dependency, no_feature}
+use Rattle.graph.specs.Places.{declarations_of, dependencies_of, features_of, no_dependency, no_feature}
 use Rattle.graph.specs.Rules.{later, place_of}
-use Rattle.graph.specs.Second.{Placed, placed_parts, placed_from, placed, package_record, parts_length, has_feature, has_dependency, end_has, ends_have, known, all_known, names_known, end_known, or_after, checked, ends, references, then_check, second_reading}
-use Rattle.graph.specs.Directory.{no_placed}
+use Rattle.graph.specs.Second.{DeclarationPlace, places_in_package, places_from, declaration_places, package_record, declarations_length, has_feature, has_dependency, end_has, ends_have, is_known, all_known, names_known, end_known, or_after, check_all, ends, references, then_check, second_reading}
+use Rattle.graph.specs.Directory.{no_place}
 use Rattle.graph.specs.Limits.{end_place, dependency_name_place, feature_name_place}
 use Rattle.graph.specs.OpeningLaw.{In, DependencyAt, FeatureAt, HasFeature, HasDependency, EndsHave, Resolves, Resolved, Refers}
 
 -- how many records there are
 
-parts-length : (ps : List Part) (number start owner : ℕ) → length (placed_parts number start owner ps) ≡ length ps
+parts-length : (ps : List Declaration) (number start owner : ℕ) → length (places_in_package number start owner ps) ≡ length ps
 parts-length [] number start owner = refl
-parts-length (x ∷ ps) number start owner = ap suc (parts-length ps (number + 1) (start + length (part_bytes x)) owner)
+parts-length (x ∷ ps) number start owner = ap suc (parts-length ps (number + 1) (start + length (declaration_bytes x)) owner)
 
-parts-both : (ps : List Part) → length ps ≡ length (dependencies_in ps) + length (features_in ps)
+parts-both : (ps : List Declaration) → length ps ≡ length (dependencies_in ps) + length (features_in ps)
 parts-both [] = refl
 parts-both (dependency x ∷ ps) = omega (arith, parts-both ps)
 parts-both (feature x ∷ ps) = omega (arith, parts-both ps)
 
-from-length : (g : Graph) (number start owner : ℕ) → length (placed_from number start owner g) ≡ dependency_count g + feature_count g
+from-length : (g : Graph) (number start owner : ℕ) → length (places_from number start owner g) ≡ dependency_count g + feature_count g
 from-length [] number start owner = refl
 from-length (a ∷ g) number start owner =
     let at : ℕ = start + length (package_record a) in
     omega (
       arith,
-      length-append (placed_parts (number + 1) at owner a.parts) (placed_from ((number + 1) + length a.parts) (at + parts_length a.parts) (owner + 1) g),
-      parts-length a.parts (number + 1) at owner,
-      parts-both a.parts,
-      from-length g ((number + 1) + length a.parts) (at + parts_length a.parts) (owner + 1),
+      length-append (places_in_package (number + 1) at owner a.declarations) (places_from ((number + 1) + length a.declarations) (at + declarations_length a.declarations) (owner + 1) g),
+      parts-length a.declarations (number + 1) at owner,
+      parts-both a.declarations,
+      from-length g ((number + 1) + length a.declarations) (at + declarations_length a.declarations) (owner + 1),
     )
 
-pub placed-length : (g : Graph) → length (placed g) ≡ dependency_count g + feature_count g
+pub placed-length : (g : Graph) → length (declaration_places g) ≡ dependency_count g + feature_count g
 placed-length g = from-length g 1 (length header_bytes) 0
 
 -- record j of a package: its number and its owner
-parts_at : (ps : List Part) (number start owner j : ℕ) → j < length ps → ((get_or (placed_parts number start owner ps) j no_placed).number ≡ number + j) × ((get_or (placed_parts number start owner ps) j no_placed).owner ≡ owner)
+parts_at : (ps : List Declaration) (number start owner j : ℕ) → j < length ps → ((get_or (places_in_package number start owner ps) j no_place).number ≡ number + j) × ((get_or (places_in_package number start owner ps) j no_place).owner ≡ owner)
 parts_at [] number start owner j l = absurd (omega arith)
 parts_at (x ∷ ps) number start owner zero l = (omega arith, refl)
 parts_at (x ∷ ps) number start owner (suc j) l =
-    let h = parts_at ps (number + 1) (start + length (part_bytes x)) owner j (omega arith) in
+    let h = parts_at ps (number + 1) (start + length (declaration_bytes x)) owner j (omega arith) in
     (omega (arith, h.0), h.1)
 
 -- record j from package `owner` on is that of one of the packages, and its number counts the records and the packages
-from_at : (g : Graph) (number start owner j : ℕ) → j < length (placed_from number start owner g) → ((get_or (placed_from number start owner g) j no_placed).number + owner ≡ (number + j) + ((get_or (placed_from number start owner g) j no_placed).owner + 1)) × (owner ≤ (get_or (placed_from number start owner g) j no_placed).owner) × ((get_or (placed_from number start owner g) j no_placed).owner < owner + length g)
+from_at : (g : Graph) (number start owner j : ℕ) → j < length (places_from number start owner g) → ((get_or (places_from number start owner g) j no_place).number + owner ≡ (number + j) + ((get_or (places_from number start owner g) j no_place).owner + 1)) × (owner ≤ (get_or (places_from number start owner g) j no_place).owner) × ((get_or (places_from number start owner g) j no_place).owner < owner + length g)
 from_at [] number start owner j l = absurd (omega arith)
 from_at (a ∷ g) number start owner j l =
     let at : ℕ = start + length (package_record a) in
-    let own : List Placed = placed_parts (number + 1) at owner a.parts in
-    let others : List Placed = placed_from ((number + 1) + length a.parts) (at + parts_length a.parts) (owner + 1) g in
-    let w = parts-length a.parts (number + 1) at owner in
+    let own : List DeclarationPlace = places_in_package (number + 1) at owner a.declarations in
+    let others : List DeclarationPlace = places_from ((number + 1) + length a.declarations) (at + declarations_length a.declarations) (owner + 1) g in
+    let w = parts-length a.declarations (number + 1) at owner in
     ⊎_elim
     (λ (m : j < length own).
-    let h = parts_at a.parts (number + 1) at owner j (omega arith) in
-    let e : get_or (own ++ others) j no_placed ≡ get_or own j no_placed = get_or_append_left own others no_placed j m in
-    let n : (get_or (own ++ others) j no_placed).number ≡ (number + 1) + j = ap (λ x. x.number) e ∙ h.0 in
-    let o : (get_or (own ++ others) j no_placed).owner ≡ owner = ap (λ x. x.owner) e ∙ h.1 in
+    let h = parts_at a.declarations (number + 1) at owner j (omega arith) in
+    let e : get_or (own ++ others) j no_place ≡ get_or own j no_place = get_or_append_left own others no_place j m in
+    let n : (get_or (own ++ others) j no_place).number ≡ (number + 1) + j = ap (λ x. x.number) e ∙ h.0 in
+    let o : (get_or (own ++ others) j no_place).owner ≡ owner = ap (λ x. x.owner) e ∙ h.1 in
     (omega arith, omega arith, omega arith))
     (λ (m : length own ≤ j).
     let i : ℕ = j - length own in
     let c : j ≡ length own + i = omega arith in
-    let e : get_or (own ++ others) j no_placed ≡ get_or others i no_placed = ap (λ x. get_or (own ++ others) x no_placed) c ∙ get_or-append-add own others i no_placed in
-    let n : (get_or (own ++ others) j no_placed).number ≡ (get_or others i no_placed).number = ap (λ x. x.number) e in
-    let o : (get_or (own ++ others) j no_placed).owner ≡ (get_or others i no_placed).owner = ap (λ x. x.owner) e in
+    let e : get_or (own ++ others) j no_place ≡ get_or others i no_place = ap (λ x. get_or (own ++ others) x no_place) c ∙ get_or-append-add own others i no_place in
+    let n : (get_or (own ++ others) j no_place).number ≡ (get_or others i no_place).number = ap (λ x. x.number) e in
+    let o : (get_or (own ++ others) j no_place).owner ≡ (get_or others i no_place).owner = ap (λ x. x.owner) e in
     let s : i < length others = omega (arith, length-append own others) in
-    let h = from_at g ((number + 1) + length a.parts) (at + parts_length a.parts) (owner + 1) i s in
+    let h = from_at g ((number + 1) + length a.declarations) (at + declarations_length a.declarations) (owner + 1) i s in
     (omega (arith, h.0), omega (arith, h.1), omega (arith, h.2)))
     (cases_lt j (length own))
 
 -- the header is record 0, and each package has a record of its own
-pub placed-number : (g : Graph) (j : ℕ) → j < length (placed g) → (get_or (placed g) j no_placed).number ≡ (j + (get_or (placed g) j no_placed).owner) + 2
+pub placed-number : (g : Graph) (j : ℕ) → j < length (declaration_places g) → (get_or (declaration_places g) j no_place).number ≡ (j + (get_or (declaration_places g) j no_place).owner) + 2
 placed-number g j l = omega (arith, (from_at g 1 (length header_bytes) 0 j l).0)
 
 -- the library splits `All`, which goes by place, and this one goes by recursion
@@ -91,93 +91,93 @@ all_split P [] ys h = (tt, h)
 all_split P (x ∷ xs) ys h = let r = all_split P xs ys h.1 in ((h.0, r.0), r.1)
 
 -- what holds of the parts of a package holds of its dependencies and of its features, and the other way round
-dependencies-all : (P : Part → Type 0) (ps : List Part) → AllByRecursion P ps → AllByRecursion (λ d. P (dependency d)) (dependencies_in ps)
+dependencies-all : (P : Declaration → Type 0) (ps : List Declaration) → AllByRecursion P ps → AllByRecursion (λ d. P (dependency d)) (dependencies_in ps)
 dependencies-all P [] h = tt
 dependencies-all P (dependency d ∷ ps) h = (h.0, dependencies-all P ps h.1)
 dependencies-all P (feature f ∷ ps) h = dependencies-all P ps h.1
 
-features-all : (P : Part → Type 0) (ps : List Part) → AllByRecursion P ps → AllByRecursion (λ f. P (feature f)) (features_in ps)
+features-all : (P : Declaration → Type 0) (ps : List Declaration) → AllByRecursion P ps → AllByRecursion (λ f. P (feature f)) (features_in ps)
 features-all P [] h = tt
 features-all P (dependency d ∷ ps) h = features-all P ps h.1
 features-all P (feature f ∷ ps) h = (h.0, features-all P ps h.1)
 
-parts_all : (P : Part → Type 0) (ps : List Part) → AllByRecursion (λ d. P (dependency d)) (dependencies_in ps) → AllByRecursion (λ f. P (feature f)) (features_in ps) → AllByRecursion P ps
+parts_all : (P : Declaration → Type 0) (ps : List Declaration) → AllByRecursion (λ d. P (dependency d)) (dependencies_in ps) → AllByRecursion (λ f. P (feature f)) (features_in ps) → AllByRecursion P ps
 parts_all P [] h k = tt
 parts_all P (dependency d ∷ ps) h k = (h.0, parts_all P ps h.1 k)
 parts_all P (feature f ∷ ps) h k = (k.0, parts_all P ps h k.1)
 
 -- what holds of every record holds of every part of every package, and the other way round
-module _ (Q : ℕ → Part → Type 0) where
-  abbrev Held : Placed → Type 0
-  Held x = Q x.owner x.part
+module _ (Q : ℕ → Declaration → Type 0) where
+  abbrev Held : DeclarationPlace → Type 0
+  Held x = Q x.owner x.declaration
 
-  parts_held : (ps : List Part) (number start owner : ℕ) → AllByRecursion Held (placed_parts number start owner ps) → AllByRecursion (Q owner) ps
+  parts_held : (ps : List Declaration) (number start owner : ℕ) → AllByRecursion Held (places_in_package number start owner ps) → AllByRecursion (Q owner) ps
   parts_held [] number start owner h = tt
-  parts_held (x ∷ ps) number start owner h = (h.0, parts_held ps (number + 1) (start + length (part_bytes x)) owner h.1)
+  parts_held (x ∷ ps) number start owner h = (h.0, parts_held ps (number + 1) (start + length (declaration_bytes x)) owner h.1)
 
-  held-parts : (ps : List Part) (number start owner : ℕ) → AllByRecursion (Q owner) ps → AllByRecursion Held (placed_parts number start owner ps)
+  held-parts : (ps : List Declaration) (number start owner : ℕ) → AllByRecursion (Q owner) ps → AllByRecursion Held (places_in_package number start owner ps)
   held-parts [] number start owner h = tt
-  held-parts (x ∷ ps) number start owner h = (h.0, held-parts ps (number + 1) (start + length (part_bytes x)) owner h.1)
+  held-parts (x ∷ ps) number start owner h = (h.0, held-parts ps (number + 1) (start + length (declaration_bytes x)) owner h.1)
 
-  from-held : (g : Graph) (number start owner : ℕ) → AllByRecursion Held (placed_from number start owner g) → (p : ℕ) → AllByRecursion (Q (owner + p)) (parts_of g p)
+  from-held : (g : Graph) (number start owner : ℕ) → AllByRecursion Held (places_from number start owner g) → (p : ℕ) → AllByRecursion (Q (owner + p)) (declarations_of g p)
   from-held [] number start owner h p = tt
   from-held (a ∷ g) number start owner h zero =
       let at : ℕ = start + length (package_record a) in
       let z : owner ≡ owner + 0 = omega arith in
-      subst (λ o. AllByRecursion (Q o) a.parts) z (parts_held a.parts (number + 1) at owner (all_split Held (placed_parts (number + 1) at owner a.parts) _ h).0)
+      subst (λ o. AllByRecursion (Q o) a.declarations) z (parts_held a.declarations (number + 1) at owner (all_split Held (places_in_package (number + 1) at owner a.declarations) _ h).0)
   from-held (a ∷ g) number start owner h (suc p) =
       let at : ℕ = start + length (package_record a) in
       let z : (owner + 1) + p ≡ owner + suc p = omega arith in
-      subst (λ o. AllByRecursion (Q o) (parts_of g p)) z (from-held g ((number + 1) + length a.parts) (at + parts_length a.parts) (owner + 1) (all_split Held (placed_parts (number + 1) at owner a.parts) _ h).1 p)
+      subst (λ o. AllByRecursion (Q o) (declarations_of g p)) z (from-held g ((number + 1) + length a.declarations) (at + declarations_length a.declarations) (owner + 1) (all_split Held (places_in_package (number + 1) at owner a.declarations) _ h).1 p)
 
-  held-from : (g : Graph) (number start owner : ℕ) → ((p : ℕ) → AllByRecursion (Q (owner + p)) (parts_of g p)) → AllByRecursion Held (placed_from number start owner g)
+  held-from : (g : Graph) (number start owner : ℕ) → ((p : ℕ) → AllByRecursion (Q (owner + p)) (declarations_of g p)) → AllByRecursion Held (places_from number start owner g)
   held-from [] number start owner h = tt
   held-from (a ∷ g) number start owner h =
       let at : ℕ = start + length (package_record a) in
       let z : owner + 0 ≡ owner = omega arith in
-      All-append Held (placed_parts (number + 1) at owner a.parts) _
-      (held-parts a.parts (number + 1) at owner (subst (λ o. AllByRecursion (Q o) a.parts) z (h 0)))
-      (held-from g ((number + 1) + length a.parts) (at + parts_length a.parts) (owner + 1) (λ p.
+      All-append Held (places_in_package (number + 1) at owner a.declarations) _
+      (held-parts a.declarations (number + 1) at owner (subst (λ o. AllByRecursion (Q o) a.declarations) z (h 0)))
+      (held-from g ((number + 1) + length a.declarations) (at + declarations_length a.declarations) (owner + 1) (λ p.
       let s : owner + suc p ≡ (owner + 1) + p = omega arith in
-      subst (λ o. AllByRecursion (Q o) (parts_of g p)) s (h (suc p))))
+      subst (λ o. AllByRecursion (Q o) (declarations_of g p)) s (h (suc p))))
 
   -- of dependencies and of features, by place
-  pub held-dependency : (g : Graph) → AllByRecursion Held (placed g) → (p k : ℕ) (d : Dependency) → DependencyAt g p k d → Q p (dependency d)
+  pub held-dependency : (g : Graph) → AllByRecursion Held (declaration_places g) → (p k : ℕ) (d : Dependency) → DependencyAt g p k d → Q p (dependency d)
   held-dependency g h p k d at =
       let z : 0 + p ≡ p = omega arith in
-      subst (λ x. Q p (dependency x)) at.1 (All-get_or (λ x. Q p (dependency x)) (dependencies_of g p) k no_dependency at.0 (dependencies-all (Q p) (parts_of g p) (subst (λ o. AllByRecursion (Q o) (parts_of g p)) z (from-held g 1 (length header_bytes) 0 h p))))
+      subst (λ x. Q p (dependency x)) at.1 (All-get_or (λ x. Q p (dependency x)) (dependencies_of g p) k no_dependency at.0 (dependencies-all (Q p) (declarations_of g p) (subst (λ o. AllByRecursion (Q o) (declarations_of g p)) z (from-held g 1 (length header_bytes) 0 h p))))
 
-  pub held-feature : (g : Graph) → AllByRecursion Held (placed g) → (p k : ℕ) (f : Feature) → FeatureAt g p k f → Q p (feature f)
+  pub held-feature : (g : Graph) → AllByRecursion Held (declaration_places g) → (p k : ℕ) (f : Feature) → FeatureAt g p k f → Q p (feature f)
   held-feature g h p k f at =
       let z : 0 + p ≡ p = omega arith in
-      subst (λ x. Q p (feature x)) at.1 (All-get_or (λ x. Q p (feature x)) (features_of g p) k no_feature at.0 (features-all (Q p) (parts_of g p) (subst (λ o. AllByRecursion (Q o) (parts_of g p)) z (from-held g 1 (length header_bytes) 0 h p))))
+      subst (λ x. Q p (feature x)) at.1 (All-get_or (λ x. Q p (feature x)) (features_of g p) k no_feature at.0 (features-all (Q p) (declarations_of g p) (subst (λ o. AllByRecursion (Q o) (declarations_of g p)) z (from-held g 1 (length header_bytes) 0 h p))))
 
-  pub all_held : (g : Graph) → ((p k : ℕ) (d : Dependency) → DependencyAt g p k d → Q p (dependency d)) → ((p k : ℕ) (f : Feature) → FeatureAt g p k f → Q p (feature f)) → AllByRecursion Held (placed g)
+  pub all_held : (g : Graph) → ((p k : ℕ) (d : Dependency) → DependencyAt g p k d → Q p (dependency d)) → ((p k : ℕ) (f : Feature) → FeatureAt g p k f → Q p (feature f)) → AllByRecursion Held (declaration_places g)
   all_held g ds fs = held-from g 1 (length header_bytes) 0 (λ p.
       let z : p ≡ 0 + p = omega arith in
-      subst (λ o. AllByRecursion (Q o) (parts_of g p)) z (parts_all (Q p) (parts_of g p)
+      subst (λ o. AllByRecursion (Q o) (declarations_of g p)) z (parts_all (Q p) (declarations_of g p)
       (All-from_get_or (λ x. Q p (dependency x)) (dependencies_of g p) no_dependency (λ k l. ds p k (get_or (dependencies_of g p) k no_dependency) (l, refl)))
       (All-from_get_or (λ x. Q p (feature x)) (features_of g p) no_feature (λ k l. fs p k (get_or (features_of g p) k no_feature) (l, refl)))))
 
 -- a check finds no fault exactly if it finds none in any record; and the fault that it finds is one of a record
-module _ (test : Placed → Result (Unit {0}) RecordFault) where
-  checked-all : (xs : List Placed) → checked test xs ≡ Ok tt → AllByRecursion (λ x. test x ≡ Ok tt) xs
+module _ (test : DeclarationPlace → Result (Unit {0}) RecordFault) where
+  checked-all : (xs : List DeclarationPlace) → check_all test xs ≡ Ok tt → AllByRecursion (λ x. test x ≡ Ok tt) xs
   checked-all [] e = tt
   checked-all (x ∷ xs) e = go (test x) refl e (checked-all xs)
     where
-      go : (r : Result (Unit {0}) RecordFault) → test x ≡ r → or_after x r (checked test xs) ≡ Ok tt → (checked test xs ≡ Ok tt → AllByRecursion (λ y. test y ≡ Ok tt) xs) → AllByRecursion (λ y. test y ≡ Ok tt) (x ∷ xs)
+      go : (r : Result (Unit {0}) RecordFault) → test x ≡ r → or_after x r (check_all test xs) ≡ Ok tt → (check_all test xs ≡ Ok tt → AllByRecursion (λ y. test y ≡ Ok tt) xs) → AllByRecursion (λ y. test y ≡ Ok tt) (x ∷ xs)
       go (Ok u) q h more = (q, more h)
       go (Err f) q h more = absurd (not-both h)
 
-  all-checked : (xs : List Placed) → AllByRecursion (λ x. test x ≡ Ok tt) xs → checked test xs ≡ Ok tt
+  all-checked : (xs : List DeclarationPlace) → AllByRecursion (λ x. test x ≡ Ok tt) xs → check_all test xs ≡ Ok tt
   all-checked [] h = refl
-  all-checked (x ∷ xs) h = ap (λ r. or_after x r (checked test xs)) h.0 ∙ all-checked xs h.1
+  all-checked (x ∷ xs) h = ap (λ r. or_after x r (check_all test xs)) h.0 ∙ all-checked xs h.1
 
-  fault-of : (xs : List Placed) (y : InRecord) → checked test xs ≡ Err y → (x : Placed) × In x xs × (f : RecordFault) × (test x ≡ Err f) × (y ≡ record { number = x.number; start = x.start; fault = f })
+  fault-of : (xs : List DeclarationPlace) (y : InRecord) → check_all test xs ≡ Err y → (x : DeclarationPlace) × In x xs × (f : RecordFault) × (test x ≡ Err f) × (y ≡ record { number = x.number; start = x.start; fault = f })
   fault-of [] y e = absurd (not-both (sym e))
   fault-of (x ∷ xs) y e = go (test x) refl e (fault-of xs y)
     where
-      go : (r : Result (Unit {0}) RecordFault) → test x ≡ r → or_after x r (checked test xs) ≡ Err y → (checked test xs ≡ Err y → (z : Placed) × In z xs × (f : RecordFault) × (test z ≡ Err f) × (y ≡ record { number = z.number; start = z.start; fault = f })) → (z : Placed) × In z (x ∷ xs) × (f : RecordFault) × (test z ≡ Err f) × (y ≡ record { number = z.number; start = z.start; fault = f })
+      go : (r : Result (Unit {0}) RecordFault) → test x ≡ r → or_after x r (check_all test xs) ≡ Err y → (check_all test xs ≡ Err y → (z : DeclarationPlace) × In z xs × (f : RecordFault) × (test z ≡ Err f) × (y ≡ record { number = z.number; start = z.start; fault = f })) → (z : DeclarationPlace) × In z (x ∷ xs) × (f : RecordFault) × (test z ≡ Err f) × (y ≡ record { number = z.number; start = z.start; fault = f })
       go (Ok u) q h more = let w = more h in (w.0, inr w.1, w.2, w.3, w.4)
       go (Err f) q h more = (x, inl refl, f, q, sym (in-err _ _ h))
 
@@ -189,8 +189,8 @@ end-there g d e = go (ltb d.end (length g)) refl e
     go true q h = ltb-true d.end (length g) q
     go false q h = absurd (not-both h)
 
-pub ends-resolved : (g : Graph) → ends g (placed g) ≡ Ok tt → (p k : ℕ) (d : Dependency) → DependencyAt g p k d → d.end < length g
-ends-resolved g e p k d at = end-there g d (held-dependency (λ o x. end_known g x ≡ Ok tt) g (checked-all (λ x. end_known g x.part) (placed g) e) p k d at)
+pub ends-resolved : (g : Graph) → ends g (declaration_places g) ≡ Ok tt → (p k : ℕ) (d : Dependency) → DependencyAt g p k d → d.end < length g
+ends-resolved g e p k d at = end-there g d (held-dependency (λ o x. end_known g x ≡ Ok tt) g (checked-all (λ x. end_known g x.declaration) (declaration_places g) e) p k d at)
 
 there-end : (g : Graph) (d : Dependency) → d.end < length g → end_known g (dependency d) ≡ Ok tt
 there-end g d l = cond-true _ _ _ (lt-ltb d.end (length g) l)
@@ -303,7 +303,7 @@ module _ (g : Graph) (n x : List ℕ) where
       has_end (get_or (dependencies_of g p) k no_dependency) (h k (get_or (dependencies_of g p) k no_dependency) (l, refl))))
 
 -- a value is known exactly if it resolves
-known-resolves : (g : Graph) (p : ℕ) (v : Form (List ℕ)) → known g p v ≡ true → Resolves g p v
+known-resolves : (g : Graph) (p : ℕ) (v : Form (List ℕ)) → is_known g p v ≡ true → Resolves g p v
 known-resolves g p (plain x) e = has-feature g p x e
 known-resolves g p (switch n) e = has-dependency g p n e
 known-resolves g p (strong n x) e =
@@ -313,7 +313,7 @@ known-resolves g p (weak n x) e =
     let b = and_parts (has_dependency (dependencies_of g p) n) (ends_have g (dependencies_of g p) n x) e in
     (has-dependency g p n b.0, ends-have g n x p b.1)
 
-resolves_known : (g : Graph) (p : ℕ) (v : Form (List ℕ)) → Resolves g p v → known g p v ≡ true
+resolves_known : (g : Graph) (p : ℕ) (v : Form (List ℕ)) → Resolves g p v → is_known g p v ≡ true
 resolves_known g p (plain x) h = feature-has g p x h
 resolves_known g p (switch n) h = dependency-has g p n h
 resolves_known g p (strong n x) h = and_from _ _ (dependency-has g p n h.0) (have-ends g n x p h.1)
@@ -326,20 +326,20 @@ both-checked (Err x) b e = absurd (not-both e)
 
 pub second-resolved : (g : Graph) → second_reading g ≡ Ok tt → Resolved g
 second-resolved g e =
-    let b = both-checked (ends g (placed g)) (references g (placed g)) e in
-    let r = checked-all (λ x. names_known g x.owner x.part) (placed g) b.1 in
+    let b = both-checked (ends g (declaration_places g)) (references g (declaration_places g)) e in
+    let r = checked-all (λ x. names_known g x.owner x.declaration) (declaration_places g) b.1 in
     record {
       ends = ends-resolved g b.0;
       asks = λ p k d at. All-weaker (λ n. has_feature (features_of g d.end) n ≡ true) (HasFeature g d.end) (has-feature g d.end) d.asks
           (known-each (has_feature (features_of g d.end)) length ((dependency_name_place + length d.name) + 1) d.asks (held-dependency (λ o x. names_known g o x ≡ Ok tt) g r p k d at));
-      values = λ p k f at. All-weaker (λ v. known g p v ≡ true) (Resolves g p) (known-resolves g p) f.values
-          (known-each (known g p) (λ v. length (spell v)) ((feature_name_place + length f.name) + 1) f.values (held-feature (λ o x. names_known g o x ≡ Ok tt) g r p k f at));
+      values = λ p k f at. All-weaker (λ v. is_known g p v ≡ true) (Resolves g p) (known-resolves g p) f.values
+          (known-each (is_known g p) (λ v. length (spell v)) ((feature_name_place + length f.name) + 1) f.values (held-feature (λ o x. names_known g o x ≡ Ok tt) g r p k f at));
     }
 
 -- what a part refers to is there only if both checks of its record find no fault
-refers-known : (g : Graph) (p : ℕ) (x : Part) → Refers g p x → (end_known g x ≡ Ok tt) × (names_known g p x ≡ Ok tt)
+refers-known : (g : Graph) (p : ℕ) (x : Declaration) → Refers g p x → (end_known g x ≡ Ok tt) × (names_known g p x ≡ Ok tt)
 refers-known g p (dependency d) h = (there-end g d h.0, each-known _ length ((dependency_name_place + length d.name) + 1) d.asks (All-weaker (HasFeature g d.end) (λ n. has_feature (features_of g d.end) n ≡ true) (feature-has g d.end) d.asks h.1))
-refers-known g p (feature f) h = (refl, each-known (known g p) (λ v. length (spell v)) ((feature_name_place + length f.name) + 1) f.values (All-weaker (Resolves g p) (λ v. known g p v ≡ true) (resolves_known g p) f.values h))
+refers-known g p (feature f) h = (refl, each-known (is_known g p) (λ v. length (spell v)) ((feature_name_place + length f.name) + 1) f.values (All-weaker (Resolves g p) (λ v. is_known g p v ≡ true) (resolves_known g p) f.values h))
 
 -- both checks find only that something is unknown
 names-unknown : {A : Type 0} (test : A → Bool) (size : A → ℕ) (at : ℕ) (xs : List A) (e : RecordFault) → all_known test size at xs ≡ Err e → (field : ℕ) × (e ≡ Unknown field)
@@ -350,11 +350,11 @@ names-unknown test size at (x ∷ xs) e h = go (test x) h (names-unknown test si
     go true q more = more q
     go false q more = (at + 1, sym (in-err _ _ q))
 
-part-unknown : (g : Graph) (p : ℕ) (x : Part) (e : RecordFault) → names_known g p x ≡ Err e → (field : ℕ) × (e ≡ Unknown field)
+part-unknown : (g : Graph) (p : ℕ) (x : Declaration) (e : RecordFault) → names_known g p x ≡ Err e → (field : ℕ) × (e ≡ Unknown field)
 part-unknown g p (dependency d) e h = names-unknown _ _ _ d.asks e h
 part-unknown g p (feature f) e h = names-unknown _ _ _ f.values e h
 
-end-unknown : (g : Graph) (x : Part) (e : RecordFault) → end_known g x ≡ Err e → (field : ℕ) × (e ≡ Unknown field)
+end-unknown : (g : Graph) (x : Declaration) (e : RecordFault) → end_known g x ≡ Err e → (field : ℕ) × (e ≡ Unknown field)
 end-unknown g (dependency d) e h = go (ltb d.end (length g)) h
   where
     go : (b : Bool) → cond {A = Result (Unit {0}) RecordFault} b (Ok tt) (Err (Unknown end_place)) ≡ Err e → (field : ℕ) × (e ≡ Unknown field)
@@ -364,35 +364,35 @@ end-unknown g (feature f) e h = absurd (not-both (sym h))
 
 -- the record at fault, and that something it refers to is not there
 abbrev Amiss : Graph → InRecord → Type 0
-Amiss g y = (x : Placed) × In x (placed g) × (y.number ≡ x.number) × (y.start ≡ x.start) × (Refers g x.owner x.part → ⊥) × ((field : ℕ) × (y.fault ≡ Unknown field))
+Amiss g y = (x : DeclarationPlace) × In x (declaration_places g) × (y.number ≡ x.number) × (y.start ≡ x.start) × (Refers g x.owner x.declaration → ⊥) × ((field : ℕ) × (y.fault ≡ Unknown field))
 
 pub second-amiss : (g : Graph) (y : InRecord) → second_reading g ≡ Err y → Amiss g y
-second-amiss g y e = go (ends g (placed g)) refl e
+second-amiss g y e = go (ends g (declaration_places g)) refl e
   where
-    of_ends : ends g (placed g) ≡ Err y → Amiss g y
+    of_ends : ends g (declaration_places g) ≡ Err y → Amiss g y
     of_ends h =
-        let w = fault-of (λ x. end_known g x.part) (placed g) y h in
-        let u = end-unknown g w.0.part w.2 w.3 in
-        (w.0, w.1, ap (λ z. z.number) w.4, ap (λ z. z.start) w.4, (λ r. not-both (sym w.3 ∙ (refers-known g w.0.owner w.0.part r).0)), (u.0, ap (λ z. z.fault) w.4 ∙ u.1))
+        let w = fault-of (λ x. end_known g x.declaration) (declaration_places g) y h in
+        let u = end-unknown g w.0.declaration w.2 w.3 in
+        (w.0, w.1, ap (λ z. z.number) w.4, ap (λ z. z.start) w.4, (λ r. not-both (sym w.3 ∙ (refers-known g w.0.owner w.0.declaration r).0)), (u.0, ap (λ z. z.fault) w.4 ∙ u.1))
 
-    of_names : references g (placed g) ≡ Err y → Amiss g y
+    of_names : references g (declaration_places g) ≡ Err y → Amiss g y
     of_names h =
-        let w = fault-of (λ x. names_known g x.owner x.part) (placed g) y h in
-        let u = part-unknown g w.0.owner w.0.part w.2 w.3 in
-        (w.0, w.1, ap (λ z. z.number) w.4, ap (λ z. z.start) w.4, (λ r. not-both (sym w.3 ∙ (refers-known g w.0.owner w.0.part r).1)), (u.0, ap (λ z. z.fault) w.4 ∙ u.1))
+        let w = fault-of (λ x. names_known g x.owner x.declaration) (declaration_places g) y h in
+        let u = part-unknown g w.0.owner w.0.declaration w.2 w.3 in
+        (w.0, w.1, ap (λ z. z.number) w.4, ap (λ z. z.start) w.4, (λ r. not-both (sym w.3 ∙ (refers-known g w.0.owner w.0.declaration r).1)), (u.0, ap (λ z. z.fault) w.4 ∙ u.1))
 
-    go : (r : Result (Unit {0}) InRecord) → ends g (placed g) ≡ r → then_check r (references g (placed g)) ≡ Err y → Amiss g y
+    go : (r : Result (Unit {0}) InRecord) → ends g (declaration_places g) ≡ r → then_check r (references g (declaration_places g)) ≡ Err y → Amiss g y
     go (Ok u) q h = of_names h
     go (Err z) q h = of_ends (q ∙ h)
 
 pub resolved-second : (g : Graph) → Resolved g → second_reading g ≡ Ok tt
 resolved-second g h =
-    let a : ends g (placed g) ≡ Ok tt = all-checked (λ x. end_known g x.part) (placed g) (all_held (λ o x. end_known g x ≡ Ok tt) g
+    let a : ends g (declaration_places g) ≡ Ok tt = all-checked (λ x. end_known g x.declaration) (declaration_places g) (all_held (λ o x. end_known g x ≡ Ok tt) g
     (λ p k d at. there-end g d (h.ends p k d at))
     (λ p k f at. refl)) in
-    let b : references g (placed g) ≡ Ok tt = all-checked (λ x. names_known g x.owner x.part) (placed g) (all_held (λ o x. names_known g o x ≡ Ok tt) g
+    let b : references g (declaration_places g) ≡ Ok tt = all-checked (λ x. names_known g x.owner x.declaration) (declaration_places g) (all_held (λ o x. names_known g o x ≡ Ok tt) g
     (λ p k d at. each-known (has_feature (features_of g d.end)) length ((dependency_name_place + length d.name) + 1) d.asks
     (All-weaker (HasFeature g d.end) (λ n. has_feature (features_of g d.end) n ≡ true) (feature-has g d.end) d.asks (h.asks p k d at)))
-    (λ p k f at. each-known (known g p) (λ v. length (spell v)) ((feature_name_place + length f.name) + 1) f.values
-    (All-weaker (Resolves g p) (λ v. known g p v ≡ true) (resolves_known g p) f.values (h.values p k f at)))) in
-    ap (λ r. then_check r (references g (placed g))) a ∙ b
+    (λ p k f at. each-known (is_known g p) (λ v. length (spell v)) ((feature_name_place + length f.name) + 1) f.values
+    (All-weaker (Resolves g p) (λ v. is_known g p v ≡ true) (resolves_known g p) f.values (h.values p k f at)))) in
+    ap (λ r. then_check r (references g (declaration_places g))) a ∙ b

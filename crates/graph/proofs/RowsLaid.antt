@@ -4,12 +4,12 @@ use Rattle.std.proofs.lemmas.List.{append-nil, append_assoc, map-append}
 use Rattle.std.specs.List.{flat_map}
 use Rattle.std.specs.Str.{bytes_eq}
 use Rattle.text.specs.Forms.{Form, plain, switch, strong, weak}
-use Rattle.records.specs.Graphs.{Dependency, Part, Package, Graph}
+use Rattle.records.specs.Graphs.{Dependency, Declaration, Package, Graph}
 use Rattle.graph.specs.declared.rows.Row.{Row}
 use Rattle.graph.specs.Law.{dependencies_in, features_in}
-use Rattle.graph.specs.Places.{dep, feat, parts_of, dependencies_of, features_of, number}
+use Rattle.graph.specs.Places.{dep, feat, declarations_of, dependencies_of, features_of, number}
 use Rattle.graph.specs.Rules.{lane_of, place_of, when_some, when, each, unless, ask_rule, dependency_rules, value_rules, feature_rules, package_rules, row_of, rows}
-use Rattle.graph.specs.Laying.{ask_rows, dependency_rows, value_rows, package_rows, rows_below}
+use Rattle.graph.specs.RowLists.{ask_rows, dependency_rows, value_rows, package_rows, rows_below}
 
 -- a map over what each element gives
 map_each : {A B C : Type 0} (h : B → C) (f : ℕ → A → List B) (e : ℕ → A → List C) → ((i : ℕ) (x : A) → map h (f i x) ≡ e i x) → (k : ℕ) (xs : List A) → map h (each f k xs) ≡ each e k xs
@@ -59,8 +59,8 @@ map-switch h false optional a = refl
 pub dependency-laid : (g : Graph) (p k : ℕ) (d : Dependency) → map (row_of g) (dependency_rules g p k d) ≡ dependency_rows g p (number g (dep p k)) d
 dependency-laid g p k d =
     map-dependency (row_of g) d.optional d.defaults _ _ (place_of (features_of g d.end) (codes "default")) _ (flat_map (ask_rule g p k d) d.asks)
-    ∙ ap (λ (rs : List Row). unless d.optional (record { from = p; mate = None; to = number g (dep p k); lane = Some (lane_of g d); cross = false })
-    ++ (record { from = number g (dep p k); mate = None; to = d.end; lane = Some (lane_of g d); cross = true } ∷ []
+    ∙ ap (λ (rs : List Row). unless d.optional (record { from = p; with = None; to = number g (dep p k); lane = Some (lane_of g d); cross = false })
+    ++ (record { from = number g (dep p k); with = None; to = d.end; lane = Some (lane_of g d); cross = true } ∷ []
     ++ (cond d.defaults (ask_rows g (number g (dep p k)) (lane_of g d) d.end (codes "default")) [] ++ rs)))
     (map-joined (row_of g) (ask_rule g p k d) (ask_rows g (number g (dep p k)) (lane_of g d) d.end) (λ n. map-some (row_of g) (place_of (features_of g d.end) n) _) d.asks)
 
@@ -72,16 +72,16 @@ value-laid g p j (strong n x) = map_each (row_of g) _ _ (λ k d. map-strong (row
 value-laid g p j (weak n x) = map_each (row_of g) _ _ (λ k d. map-weak (row_of g) (bytes_eq d.name n) (place_of (features_of g d.end) x) _) 0 (dependencies_of g p)
 
 -- the rows of package p, whose parts are those of a
-pub package-laid : (g : Graph) (p : ℕ) (a : Package) → parts_of g p ≡ a.parts → map (row_of g) (package_rules g p a) ≡ package_rows g p
+pub package-laid : (g : Graph) (p : ℕ) (a : Package) → declarations_of g p ≡ a.declarations → map (row_of g) (package_rules g p a) ≡ package_rows g p
 package-laid g p a e =
-    map-append (row_of g) (each (dependency_rules g p) 0 (dependencies_in a.parts)) (each (feature_rules g p) 0 (features_in a.parts))
+    map-append (row_of g) (each (dependency_rules g p) 0 (dependencies_in a.declarations)) (each (feature_rules g p) 0 (features_in a.declarations))
     ∙ (λ i.
-    map_each (row_of g) (dependency_rules g p) (λ k. dependency_rows g p (number g (dep p k))) (dependency-laid g p) 0 (dependencies_in a.parts) i
-    ++ map_each (row_of g) (feature_rules g p) (λ k f. flat_map (value_rows g p (number g (feat p k))) f.values) (λ k f. map-joined (row_of g) (value_rules g p k) (value_rows g p (number g (feat p k))) (value-laid g p k) f.values) 0 (features_in a.parts) i)
-    ∙ ap (λ (ps : List Part). each (λ k. dependency_rows g p (number g (dep p k))) 0 (dependencies_in ps) ++ each (λ k f. flat_map (value_rows g p (number g (feat p k))) f.values) 0 (features_in ps)) (sym e)
+    map_each (row_of g) (dependency_rules g p) (λ k. dependency_rows g p (number g (dep p k))) (dependency-laid g p) 0 (dependencies_in a.declarations) i
+    ++ map_each (row_of g) (feature_rules g p) (λ k f. flat_map (value_rows g p (number g (feat p k))) f.values) (λ k f. map-joined (row_of g) (value_rules g p k) (value_rows g p (number g (feat p k))) (value-laid g p k) f.values) 0 (features_in a.declarations) i)
+    ∙ ap (λ (ps : List Declaration). each (λ k. dependency_rows g p (number g (dep p k))) 0 (dependencies_in ps) ++ each (λ k f. flat_map (value_rows g p (number g (feat p k))) f.values) 0 (features_in ps)) (sym e)
 
 -- the rows below package k, then those of the packages h that follow
-packages-laid : (g : Graph) (k : ℕ) (h : Graph) → ((j : ℕ) → parts_of g (k + j) ≡ parts_of h j) → rows_below g k ++ map (row_of g) (each (package_rules g) k h) ≡ rows_below g (k + length h)
+packages-laid : (g : Graph) (k : ℕ) (h : Graph) → ((j : ℕ) → declarations_of g (k + j) ≡ declarations_of h j) → rows_below g k ++ map (row_of g) (each (package_rules g) k h) ≡ rows_below g (k + length h)
 packages-laid g k [] same =
     let z : k ≡ k + 0 = omega arith in
     append-nil (rows_below g k) ∙ ap (rows_below g) z
@@ -89,15 +89,15 @@ packages-laid g k (a ∷ h) same =
     let z : k ≡ k + 0 = omega arith in
     let o : suc k ≡ k + 1 = omega arith in
     let s : (k + 1) + length h ≡ k + suc (length h) = omega arith in
-    let e : parts_of g k ≡ a.parts = ap (parts_of g) z ∙ same 0 in
+    let e : declarations_of g k ≡ a.declarations = ap (declarations_of g) z ∙ same 0 in
     ap (λ rs. rows_below g k ++ rs) (map-append (row_of g) (package_rules g k a) (each (package_rules g) (k + 1) h) ∙ ap (λ rs. rs ++ map (row_of g) (each (package_rules g) (k + 1) h)) (package-laid g k a e))
     ∙ sym (append_assoc (rows_below g k) (package_rows g k) (map (row_of g) (each (package_rules g) (k + 1) h)))
     ∙ ap (λ n. rows_below g n ++ map (row_of g) (each (package_rules g) (k + 1) h)) o
-    ∙ packages-laid g (k + 1) h (λ j. (let m : (k + 1) + j ≡ k + suc j = omega arith in ap (parts_of g) m) ∙ same (suc j))
+    ∙ packages-laid g (k + 1) h (λ j. (let m : (k + 1) + j ≡ k + suc j = omega arith in ap (declarations_of g) m) ∙ same (suc j))
     ∙ ap (rows_below g) s
 
 -- the rows of all packages are the rows of the graph
 pub rows-laid : (g : Graph) → rows_below g (length g) ≡ rows g
 rows-laid g =
     let z : 0 + length g ≡ length g = omega arith in
-    sym (packages-laid g 0 g (λ j. let m : 0 + j ≡ j = omega arith in ap (parts_of g) m) ∙ ap (rows_below g) z)
+    sym (packages-laid g 0 g (λ j. let m : 0 + j ≡ j = omega arith in ap (declarations_of g) m) ∙ ap (rows_below g) z)

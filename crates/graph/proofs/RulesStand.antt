@@ -4,11 +4,11 @@ use Rattle.std.proofs.lemmas.Slice.Eq.{bytes_eq-Decides}
 use Rattle.std.specs.List.{flat_map}
 use Rattle.std.specs.Str.{bytes_eq}
 use Rattle.text.specs.Forms.{Form, plain, switch, strong, weak}
-use Rattle.records.specs.Graphs.{Dependency, Feature, Part, Graph}
+use Rattle.records.specs.Graphs.{Dependency, Feature, Declaration, Graph}
 use Rattle.graph.specs.Law.{dependencies_in, features_in, Lawful}
-use Rattle.graph.specs.Places.{unit, dep, feat, parts_of, dependencies_of, features_of, no_dependency, no_feature}
-use Rattle.graph.specs.Rules.{Rule, lane_of, place_of, when_some, when, each, unless, ask_rule, dependency_rules, switch_rule, weak_rule, named, value_rules, feature_rules, package_rules, rules}
-use Rattle.graph.specs.OpeningLaw.{In, DependencyAt, FeatureAt, NamedAt, Stands, needs, builds, defaults, asks, plainly, switches, joins, RulesLaw}
+use Rattle.graph.specs.Places.{unit, dep, feat, declarations_of, dependencies_of, features_of, no_dependency, no_feature}
+use Rattle.graph.specs.Rules.{Rule, lane_of, place_of, when_some, when, each, unless, ask_rule, dependency_rules, switch_rule, weak_rule, if_named, value_rules, feature_rules, package_rules, rules}
+use Rattle.graph.specs.OpeningLaw.{In, DependencyAt, FeatureAt, NamedAt, IsRuleOf, needs, builds, defaults, asks, plainly, switches, joins, RulesLaw}
 use Rattle.graph.proofs.FeaturePlaces.{place-some, features-differ}
 use Rattle.graph.proofs.Resolving.{place-name}
 
@@ -121,87 +121,87 @@ named-place g law p n j h =
     place-some (features_of g p) n j h.1.0 ((bytes_eq-Decides (get_or (features_of g p) j no_feature).name n).1 (ap (λ f. f.name) h.1.1 ∙ h.2)) (features-differ g p law.packages)
 
 -- the rules of some parts of package p, and of all packages
-abbrev of_parts : Graph → ℕ → List Part → List Rule
+abbrev of_parts : Graph → ℕ → List Declaration → List Rule
 of_parts g p ps = each (dependency_rules g p) 0 (dependencies_in ps) ++ each (feature_rules g p) 0 (features_in ps)
 
-packages-from : (g : Graph) (ρ : Rule) (k : ℕ) (h : Graph) → In ρ (each (package_rules g) k h) → (p : ℕ) × In ρ (of_parts g (k + p) (parts_of h p))
+packages-from : (g : Graph) (ρ : Rule) (k : ℕ) (h : Graph) → In ρ (each (package_rules g) k h) → (p : ℕ) × In ρ (of_parts g (k + p) (declarations_of h p))
 packages-from g ρ k [] m = absurd m
 packages-from g ρ k (a ∷ h) m =
     ⊎_elim
-    (λ (l : In ρ (package_rules g k a)). let z : k ≡ k + 0 = omega arith in (0, subst (λ i. In ρ (of_parts g i a.parts)) z l))
+    (λ (l : In ρ (package_rules g k a)). let z : k ≡ k + 0 = omega arith in (0, subst (λ i. In ρ (of_parts g i a.declarations)) z l))
     (λ (l : In ρ (each (package_rules g) (k + 1) h)).
     let r = packages-from g ρ (k + 1) h l in
     let z : (k + 1) + r.0 ≡ k + suc r.0 = omega arith in
-    (suc r.0, subst (λ i. In ρ (of_parts g i (parts_of h r.0))) z r.1))
+    (suc r.0, subst (λ i. In ρ (of_parts g i (declarations_of h r.0))) z r.1))
     (in_either ρ (package_rules g k a) (each (package_rules g) (k + 1) h) m)
 
-in-packages : (g : Graph) (ρ : Rule) (k : ℕ) (h : Graph) (p : ℕ) → In ρ (of_parts g (k + p) (parts_of h p)) → In ρ (each (package_rules g) k h)
+in-packages : (g : Graph) (ρ : Rule) (k : ℕ) (h : Graph) (p : ℕ) → In ρ (of_parts g (k + p) (declarations_of h p)) → In ρ (each (package_rules g) k h)
 in-packages g ρ k [] p m = absurd m
-in-packages g ρ k (a ∷ h) zero m = let z : k + 0 ≡ k = omega arith in in_left ρ (package_rules g k a) (each (package_rules g) (k + 1) h) (subst (λ i. In ρ (of_parts g i a.parts)) z m)
+in-packages g ρ k (a ∷ h) zero m = let z : k + 0 ≡ k = omega arith in in_left ρ (package_rules g k a) (each (package_rules g) (k + 1) h) (subst (λ i. In ρ (of_parts g i a.declarations)) z m)
 in-packages g ρ k (a ∷ h) (suc p) m =
     let z : k + suc p ≡ (k + 1) + p = omega arith in
-    in_right ρ (package_rules g k a) (each (package_rules g) (k + 1) h) (in-packages g ρ (k + 1) h p (subst (λ i. In ρ (of_parts g i (parts_of h p))) z m))
+    in_right ρ (package_rules g k a) (each (package_rules g) (k + 1) h) (in-packages g ρ (k + 1) h p (subst (λ i. In ρ (of_parts g i (declarations_of h p))) z m))
 
 -- the rules of a dependency, and of a feature, of package p are rules
 in-dependency : (g : Graph) (ρ : Rule) (p k : ℕ) (d : Dependency) → DependencyAt g p k d → In ρ (dependency_rules g p k d) → In ρ (rules g)
 in-dependency g ρ p k d at m =
     let z : p ≡ 0 + p = omega arith in
-    in-packages g ρ 0 g p (subst (λ i. In ρ (of_parts g i (parts_of g p))) z
+    in-packages g ρ 0 g p (subst (λ i. In ρ (of_parts g i (declarations_of g p))) z
     (in_left ρ (each (dependency_rules g p) 0 (dependencies_of g p)) (each (feature_rules g p) 0 (features_of g p)) (in-first (dependency_rules g p) ρ no_dependency (dependencies_of g p) k d at m)))
 
 in-value : (g : Graph) (ρ : Rule) (p j : ℕ) (f : Feature) (v : Form (List ℕ)) → FeatureAt g p j f → In v f.values → In ρ (value_rules g p j v) → In ρ (rules g)
 in-value g ρ p j f v at is m =
     let z : p ≡ 0 + p = omega arith in
-    in-packages g ρ 0 g p (subst (λ i. In ρ (of_parts g i (parts_of g p))) z
+    in-packages g ρ 0 g p (subst (λ i. In ρ (of_parts g i (declarations_of g p))) z
     (in_right ρ (each (dependency_rules g p) 0 (dependencies_of g p)) (each (feature_rules g p) 0 (features_of g p))
     (in-first (feature_rules g p) ρ no_feature (features_of g p) j f at (in-joined (value_rules g p j) ρ f.values v is m))))
 
 -- for a dependency of a name
-in-named : (g : Graph) (ρ : Rule) (p k : ℕ) (d : Dependency) (n : List ℕ) (f : ℕ → Dependency → List Rule) → DependencyAt g p k d → d.name ≡ n → In ρ (f k d) → In ρ (each (named n f) 0 (dependencies_of g p))
-in-named g ρ p k d n f at e m = in-first (named n f) ρ no_dependency (dependencies_of g p) k d at (in-cond (bytes_eq d.name n) (f k d) ρ ((bytes_eq-Decides d.name n).1 e) m)
+in-named : (g : Graph) (ρ : Rule) (p k : ℕ) (d : Dependency) (n : List ℕ) (f : ℕ → Dependency → List Rule) → DependencyAt g p k d → d.name ≡ n → In ρ (f k d) → In ρ (each (if_named n f) 0 (dependencies_of g p))
+in-named g ρ p k d n f at e m = in-first (if_named n f) ρ no_dependency (dependencies_of g p) k d at (in-cond (bytes_eq d.name n) (f k d) ρ ((bytes_eq-Decides d.name n).1 e) m)
 
-named-from : (g : Graph) (ρ : Rule) (p : ℕ) (n : List ℕ) (f : ℕ → Dependency → List Rule) → In ρ (each (named n f) 0 (dependencies_of g p)) → (k : ℕ) × (d : Dependency) × DependencyAt g p k d × (d.name ≡ n) × In ρ (f k d)
+named-from : (g : Graph) (ρ : Rule) (p : ℕ) (n : List ℕ) (f : ℕ → Dependency → List Rule) → In ρ (each (if_named n f) 0 (dependencies_of g p)) → (k : ℕ) × (d : Dependency) × DependencyAt g p k d × (d.name ≡ n) × In ρ (f k d)
 named-from g ρ p n f m =
-    let r = first-from (named n f) ρ no_dependency (dependencies_of g p) m in
+    let r = first-from (if_named n f) ρ no_dependency (dependencies_of g p) m in
     let d : Dependency = get_or (dependencies_of g p) r.0 no_dependency in
     let c = cond-from (bytes_eq d.name n) (f r.0 d) ρ r.2 in
     (r.0, d, (r.1, refl), (bytes_eq-Decides d.name n).0 c.0, c.1)
 
 -- each rule of a dependency stands
 module _ (g : Graph) (ρ : Rule) (p k : ℕ) (d : Dependency) (at : DependencyAt g p k d) where
-  ask-from : (n : List ℕ) → In ρ (ask_rule g p k d n) → (j : ℕ) × NamedAt g d.end j n × (ρ ≡ record { from = dep p k; mate = None; to = feat d.end j; lane = Some (lane_of g d); cross = true })
+  ask-from : (n : List ℕ) → In ρ (ask_rule g p k d n) → (j : ℕ) × NamedAt g d.end j n × (ρ ≡ record { from = dep p k; with = None; to = feat d.end j; lane = Some (lane_of g d); cross = true })
   ask-from n m =
-      let r = some-from (place_of (features_of g d.end) n) (λ j. record { from = dep p k; mate = None; to = feat d.end j; lane = Some (lane_of g d); cross = true }) ρ m in
+      let r = some-from (place_of (features_of g d.end) n) (λ j. record { from = dep p k; with = None; to = feat d.end j; lane = Some (lane_of g d); cross = true }) ρ m in
       (r.0, place-named g d.end n r.0 r.1, r.2)
 
-  dependency-stands : In ρ (dependency_rules g p k d) → Stands g ρ
+  dependency-stands : In ρ (dependency_rules g p k d) → IsRuleOf g ρ
   dependency-stands m =
       ⊎_elim
       (λ (h : In ρ (unless d.optional need)).
       let r = unless-from d.optional need ρ h in
-      subst (Stands g) (sym r.1) (needs at r.0))
+      subst (IsRuleOf g) (sym r.1) (needs at r.0))
       (λ (h : In ρ (build ∷ [] ++ (by_default ++ by_ask))).
       ⊎_elim
-      (λ (e : ρ ≡ build). subst (Stands g) (sym e) (builds at))
+      (λ (e : ρ ≡ build). subst (IsRuleOf g) (sym e) (builds at))
       (λ (l : In ρ (by_default ++ by_ask)).
       ⊎_elim
       (λ (w : In ρ by_default).
       let c = cond-from d.defaults (ask_rule g p k d (codes "default")) ρ w in
       let r = ask-from (codes "default") c.1 in
-      subst (Stands g) (sym r.2) (defaults at c.0 r.1))
+      subst (IsRuleOf g) (sym r.2) (defaults at c.0 r.1))
       (λ (w : In ρ by_ask).
       let c = joined-from (ask_rule g p k d) ρ d.asks w in
       let r = ask-from c.0 c.2 in
-      subst (Stands g) (sym r.2) (asks at c.1 r.1))
+      subst (IsRuleOf g) (sym r.2) (asks at c.1 r.1))
       (in_either ρ by_default by_ask l))
       h)
       (in_either ρ (unless d.optional need) (build ∷ [] ++ (by_default ++ by_ask)) m)
     where
       need : Rule
-      need = record { from = unit p; mate = None; to = dep p k; lane = Some (lane_of g d); cross = false }
+      need = record { from = unit p; with = None; to = dep p k; lane = Some (lane_of g d); cross = false }
 
       build : Rule
-      build = record { from = dep p k; mate = None; to = unit d.end; lane = Some (lane_of g d); cross = true }
+      build = record { from = dep p k; with = None; to = unit d.end; lane = Some (lane_of g d); cross = true }
 
       by_default : List Rule
       by_default = cond d.defaults (ask_rule g p k d (codes "default")) []
@@ -211,20 +211,20 @@ module _ (g : Graph) (ρ : Rule) (p k : ℕ) (d : Dependency) (at : DependencyAt
 
 -- each rule of a value of a feature stands
 module _ (g : Graph) (ρ : Rule) (p j : ℕ) (f : Feature) (at : FeatureAt g p j f) where
-  switch-stands : (n : List ℕ) → In (switch n) f.values ⊎ ((x : List ℕ) × In (strong n x) f.values) → (k : ℕ) (d : Dependency) → DependencyAt g p k d → d.name ≡ n → In ρ (switch_rule g p j k d) → Stands g ρ
+  switch-stands : (n : List ℕ) → In (switch n) f.values ⊎ ((x : List ℕ) × In (strong n x) f.values) → (k : ℕ) (d : Dependency) → DependencyAt g p k d → d.name ≡ n → In ρ (switch_rule g p j k d) → IsRuleOf g ρ
   switch-stands n is k d dat e m =
-      let r = when-from d.optional (record { from = feat p j; mate = None; to = dep p k; lane = Some (lane_of g d); cross = false }) ρ m in
-      subst (Stands g) (sym r.1) (switches at is dat e r.0)
+      let r = when-from d.optional (record { from = feat p j; with = None; to = dep p k; lane = Some (lane_of g d); cross = false }) ρ m in
+      subst (IsRuleOf g) (sym r.1) (switches at is dat e r.0)
 
-  weak-stands : (n x : List ℕ) → In (strong n x) f.values ⊎ In (weak n x) f.values → (k : ℕ) (d : Dependency) → DependencyAt g p k d → d.name ≡ n → In ρ (weak_rule g p j x k d) → Stands g ρ
+  weak-stands : (n x : List ℕ) → In (strong n x) f.values ⊎ In (weak n x) f.values → (k : ℕ) (d : Dependency) → DependencyAt g p k d → d.name ≡ n → In ρ (weak_rule g p j x k d) → IsRuleOf g ρ
   weak-stands n x is k d dat e m =
-      let r = some-from (place_of (features_of g d.end) x) (λ i. record { from = feat p j; mate = Some (dep p k); to = feat d.end i; lane = Some (lane_of g d); cross = true }) ρ m in
-      subst (Stands g) (sym r.2) (joins at is dat e (place-named g d.end x r.0 r.1))
+      let r = some-from (place_of (features_of g d.end) x) (λ i. record { from = feat p j; with = Some (dep p k); to = feat d.end i; lane = Some (lane_of g d); cross = true }) ρ m in
+      subst (IsRuleOf g) (sym r.2) (joins at is dat e (place-named g d.end x r.0 r.1))
 
-  value-stands : (v : Form (List ℕ)) → In v f.values → In ρ (value_rules g p j v) → Stands g ρ
+  value-stands : (v : Form (List ℕ)) → In v f.values → In ρ (value_rules g p j v) → IsRuleOf g ρ
   value-stands (plain n) is m =
-      let r = some-from (place_of (features_of g p) n) (λ i. record { from = feat p j; mate = None; to = feat p i; lane = None; cross = false }) ρ m in
-      subst (Stands g) (sym r.2) (plainly at is (place-named g p n r.0 r.1))
+      let r = some-from (place_of (features_of g p) n) (λ i. record { from = feat p j; with = None; to = feat p i; lane = None; cross = false }) ρ m in
+      subst (IsRuleOf g) (sym r.2) (plainly at is (place-named g p n r.0 r.1))
   value-stands (switch n) is m =
       let r = named-from g ρ p n (switch_rule g p j) m in
       switch-stands n (inl is) r.0 r.1 r.2 r.3 r.4
@@ -239,12 +239,12 @@ module _ (g : Graph) (ρ : Rule) (p j : ℕ) (f : Feature) (at : FeatureAt g p j
       (in_either ρ (switch_rule g p j r.0 r.1) (weak_rule g p j x r.0 r.1) r.4)
 
 -- each rule of a graph stands
-pub rule-stands : (g : Graph) (ρ : Rule) → In ρ (rules g) → Stands g ρ
+pub rule-stands : (g : Graph) (ρ : Rule) → In ρ (rules g) → IsRuleOf g ρ
 rule-stands g ρ m =
     let r = packages-from g ρ 0 g m in
     let p : ℕ = r.0 in
     let z : 0 + p ≡ p = omega arith in
-    let l : In ρ (of_parts g p (parts_of g p)) = subst (λ i. In ρ (of_parts g i (parts_of g p))) z r.1 in
+    let l : In ρ (of_parts g p (declarations_of g p)) = subst (λ i. In ρ (of_parts g i (declarations_of g p))) z r.1 in
     ⊎_elim
     (λ (h : In ρ (each (dependency_rules g p) 0 (dependencies_of g p))).
     let c = first-from (dependency_rules g p) ρ no_dependency (dependencies_of g p) h in
@@ -258,19 +258,19 @@ rule-stands g ρ m =
 
 -- what a dependency asks of its end, by default or by name, is among its rules
 module _ (g : Graph) (law : Lawful g) (p k : ℕ) (d : Dependency) where
-  in-ask : (n : List ℕ) (j : ℕ) → NamedAt g d.end j n → In (record { from = dep p k; mate = None; to = feat d.end j; lane = Some (lane_of g d); cross = true }) (ask_rule g p k d n)
-  in-ask n j at = in_some (place_of (features_of g d.end) n) (λ i. record { from = dep p k; mate = None; to = feat d.end i; lane = Some (lane_of g d); cross = true }) j (named-place g law d.end n j at)
+  in-ask : (n : List ℕ) (j : ℕ) → NamedAt g d.end j n → In (record { from = dep p k; with = None; to = feat d.end j; lane = Some (lane_of g d); cross = true }) (ask_rule g p k d n)
+  in-ask n j at = in_some (place_of (features_of g d.end) n) (λ i. record { from = dep p k; with = None; to = feat d.end i; lane = Some (lane_of g d); cross = true }) j (named-place g law d.end n j at)
 
   -- the two kinds of them come after the first two rules
   in-asked : (ρ : Rule) → In ρ (cond d.defaults (ask_rule g p k d (codes "default")) [] ++ flat_map (ask_rule g p k d) d.asks) → In ρ (dependency_rules g p k d)
-  in-asked ρ m = in_right ρ (unless d.optional (record { from = unit p; mate = None; to = dep p k; lane = Some (lane_of g d); cross = false })) _ (inr m)
+  in-asked ρ m = in_right ρ (unless d.optional (record { from = unit p; with = None; to = dep p k; lane = Some (lane_of g d); cross = false })) _ (inr m)
 
 -- each rule that stands is one of them
-pub stands-rule : (g : Graph) → Lawful g → (ρ : Rule) → Stands g ρ → In ρ (rules g)
+pub stands-rule : (g : Graph) → Lawful g → (ρ : Rule) → IsRuleOf g ρ → In ρ (rules g)
 stands-rule g law _ (needs {p} {k} {d} at o) =
     in-dependency g _ p k d at (in_left _ (unless d.optional _) _ (in-unless d.optional _ o))
 stands-rule g law _ (builds {p} {k} {d} at) =
-    in-dependency g _ p k d at (in_right _ (unless d.optional (record { from = unit p; mate = None; to = dep p k; lane = Some (lane_of g d); cross = false })) _ (inl refl))
+    in-dependency g _ p k d at (in_right _ (unless d.optional (record { from = unit p; with = None; to = dep p k; lane = Some (lane_of g d); cross = false })) _ (inl refl))
 stands-rule g law _ (defaults {p} {k} {j} {d} at o n) =
     in-dependency g _ p k d at (in-asked g law p k d _ (in_left _ (cond d.defaults (ask_rule g p k d (codes "default")) []) _ (in-cond d.defaults _ _ o (in-ask g law p k d (codes "default") j n))))
 stands-rule g law _ (asks {p} {k} {j} {d} {n} at is m) =
@@ -285,7 +285,7 @@ stands-rule g law _ (switches {p} {j} {k} {f} {d} {n} at is dat e o) =
     is
   where
     ρ : Rule
-    ρ = record { from = feat p j; mate = None; to = dep p k; lane = Some (lane_of g d); cross = false }
+    ρ = record { from = feat p j; with = None; to = dep p k; lane = Some (lane_of g d); cross = false }
 stands-rule g law _ (joins {p} {j} {k} {i} {f} {d} {n} {x} at is dat e m) =
     ⊎_elim
     (λ (s : In (strong n x) f.values). in-value g ρ p j f (strong n x) at s
@@ -294,10 +294,10 @@ stands-rule g law _ (joins {p} {j} {k} {i} {f} {d} {n} {x} at is dat e m) =
     is
   where
     ρ : Rule
-    ρ = record { from = feat p j; mate = Some (dep p k); to = feat d.end i; lane = Some (lane_of g d); cross = true }
+    ρ = record { from = feat p j; with = Some (dep p k); to = feat d.end i; lane = Some (lane_of g d); cross = true }
 
     here : In ρ (weak_rule g p j x k d)
-    here = in_some (place_of (features_of g d.end) x) (λ a. record { from = feat p j; mate = Some (dep p k); to = feat d.end a; lane = Some (lane_of g d); cross = true }) i (named-place g law d.end x i m)
+    here = in_some (place_of (features_of g d.end) x) (λ a. record { from = feat p j; with = Some (dep p k); to = feat d.end a; lane = Some (lane_of g d); cross = true }) i (named-place g law d.end x i m)
 
 pub rules-law : (g : Graph) → Lawful g → RulesLaw g
 rules-law g law ρ = (rule-stands g ρ, stands-rule g law ρ)

@@ -7,11 +7,11 @@ use Rattle.std.proofs.lemmas.Bool.{both_ways, cases_Bool, eq-eqb, ne_eqb, and_pa
 use Rattle.std.specs.List.{flat_map, AllByRecursion}
 use Rattle.std.specs.Str.{bytes_eq}
 use Rattle.text.specs.Names.{Name}
-use Rattle.records.specs.Graphs.{Dependency, Feature, Part, dependency, feature, Package, Graph}
-use Rattle.records.specs.Encoding.{part_bytes, package_bytes, header_bytes, end_bytes, encode, LawfulDependency, LawfulFeature}
+use Rattle.records.specs.Graphs.{Dependency, Feature, Declaration, dependency, feature, Package, Graph}
+use Rattle.records.specs.Encoding.{declaration_bytes, package_bytes, header_bytes, end_bytes, encode, LawfulDependency, LawfulFeature}
 use Rattle.graph.specs.Keys.{Key, is_key, has_key}
-use Rattle.graph.specs.Limits.{most_packages, most_dependencies, most_features}
-use Rattle.graph.specs.Law.{dependencies_in, features_in, dependency_count, feature_count, LawfulPart, Differ, LawfulPackage}
+use Rattle.graph.specs.Limits.{max_packages, max_dependencies, max_features}
+use Rattle.graph.specs.Law.{dependencies_in, features_in, dependency_count, feature_count, LawfulDeclaration, Differ, LawfulPackage}
 
 abbrev pub key : ℕ → List ℕ → Key
 key owner name = record { owner = owner; name = name }
@@ -77,21 +77,21 @@ push-all o m ks (f ∷ fs) n =
     ((p.0, q.0), (other_name o f.name m p.1, q.1))
 
 -- these parts and packages may follow so many packages and dependencies and these features
-pub record May (packages dependencies : ℕ) (keys : List Key) (ps : List Part) (gs : Graph) : Type 0 where
+pub record May (packages dependencies : ℕ) (keys : List Key) (ps : List Declaration) (gs : Graph) : Type 0 where
   pub owned : packages ≡ 0 → ps ≡ []
-  pub parts : AllByRecursion LawfulPart ps
+  pub declarations : AllByRecursion LawfulDeclaration ps
   pub new : New (packages - 1) keys (features_in ps)
   pub apart : Differ (features_in ps)
   pub lawful : AllByRecursion LawfulPackage gs
-  pub few_packages : packages + length gs ≤ most_packages
-  pub few_dependencies : dependencies + (length (dependencies_in ps) + dependency_count gs) ≤ most_dependencies
-  pub few_features : length keys + (length (features_in ps) + feature_count gs) ≤ most_features
+  pub few_packages : packages + length gs ≤ max_packages
+  pub few_dependencies : dependencies + (length (dependencies_in ps) + dependency_count gs) ≤ max_dependencies
+  pub few_features : length keys + (length (features_in ps) + feature_count gs) ≤ max_features
 
 -- a record more in front
-pub may-end : (p d : ℕ) (ks : List Key) → p ≤ most_packages → d ≤ most_dependencies → length ks ≤ most_features → May p d ks [] []
+pub may-end : (p d : ℕ) (ks : List Key) → p ≤ max_packages → d ≤ max_dependencies → length ks ≤ max_features → May p d ks [] []
 may-end p d ks a b c = record {
   owned = λ z. refl;
-  parts = tt;
+  declarations = tt;
   new = tt;
   apart = tt;
   lawful = tt;
@@ -100,22 +100,22 @@ may-end p d ks a b c = record {
   few_features = omega arith;
 }
 
-pub may-heads : (p d : ℕ) (ks : List Key) (proc : Bool) (name : List ℕ) (ps : List Part) (gs : Graph) → Name name → May (p + 1) d ks ps gs → May p d ks [] (record { proc = proc; name = name; parts = ps } ∷ gs)
+pub may-heads : (p d : ℕ) (ks : List Key) (proc : Bool) (name : List ℕ) (ps : List Declaration) (gs : Graph) → Name name → May (p + 1) d ks ps gs → May p d ks [] (record { proc = proc; name = name; declarations = ps } ∷ gs)
 may-heads p d ks proc name ps gs law m = record {
   owned = λ z. refl;
-  parts = tt;
+  declarations = tt;
   new = tt;
   apart = tt;
-  lawful = ((law, m.parts, m.apart), m.lawful);
+  lawful = ((law, m.declarations, m.apart), m.lawful);
   few_packages = omega (arith, m.few_packages);
   few_dependencies = omega (arith, m.few_dependencies);
   few_features = omega (arith, m.few_features);
 }
 
-pub may-dependency : (p d : ℕ) (ks : List Key) (x : Dependency) (ps : List Part) (gs : Graph) → 0 < p → LawfulDependency x → May p (d + 1) ks ps gs → May p d ks (dependency x ∷ ps) gs
+pub may-dependency : (p d : ℕ) (ks : List Key) (x : Dependency) (ps : List Declaration) (gs : Graph) → 0 < p → LawfulDependency x → May p (d + 1) ks ps gs → May p d ks (dependency x ∷ ps) gs
 may-dependency p d ks x ps gs some law m = record {
   owned = λ z. absurd (omega arith);
-  parts = (law, m.parts);
+  declarations = (law, m.declarations);
   new = m.new;
   apart = m.apart;
   lawful = m.lawful;
@@ -124,11 +124,11 @@ may-dependency p d ks x ps gs some law m = record {
   few_features = m.few_features;
 }
 
-pub may-feature : (p d : ℕ) (ks : List Key) (x : Feature) (ps : List Part) (gs : Graph) → 0 < p → has_key (p - 1) x.name ks ≡ false → LawfulFeature x → May p d (ks ++ key (p - 1) x.name ∷ []) ps gs → May p d ks (feature x ∷ ps) gs
+pub may-feature : (p d : ℕ) (ks : List Key) (x : Feature) (ps : List Declaration) (gs : Graph) → 0 < p → has_key (p - 1) x.name ks ≡ false → LawfulFeature x → May p d (ks ++ key (p - 1) x.name ∷ []) ps gs → May p d ks (feature x ∷ ps) gs
 may-feature p d ks x ps gs some new law m =
     let q = push-all (p - 1) x.name ks (features_in ps) m.new in record {
       owned = λ z. absurd (omega arith);
-      parts = (law, m.parts);
+      declarations = (law, m.declarations);
       new = (new, q.0);
       apart = (q.1, m.apart);
       lawful = m.lawful;
@@ -138,14 +138,14 @@ may-feature p d ks x ps gs some new law m =
     }
 
 -- the record in front, and what follows it
-pub heads-may : (p d : ℕ) (ks : List Key) (g : Package) (gs : Graph) → Owners p ks → May p d ks [] (g ∷ gs) → (p < most_packages) × Name g.name × May (p + 1) d ks g.parts gs × Owners (p + 1) ks
+pub heads-may : (p d : ℕ) (ks : List Key) (g : Package) (gs : Graph) → Owners p ks → May p d ks [] (g ∷ gs) → (p < max_packages) × Name g.name × May (p + 1) d ks g.declarations gs × Owners (p + 1) ks
 heads-may p d ks g gs own m = (
   omega (arith, m.few_packages),
   m.lawful.0.0,
   record {
     owned = λ z. absurd (omega arith);
-    parts = m.lawful.0.1;
-    new = all_new p (p + 1 - 1) ks (features_in g.parts) (omega arith) own;
+    declarations = m.lawful.0.1;
+    new = all_new p (p + 1 - 1) ks (features_in g.declarations) (omega arith) own;
     apart = m.lawful.0.2;
     lawful = m.lawful.1;
     few_packages = omega (arith, m.few_packages);
@@ -155,23 +155,23 @@ heads-may p d ks g gs own m = (
   owners-more p ks own,
 )
 
-no-part : (x : Part) (ps : List Part) → x ∷ ps ≡ [] → ⊥
+no-part : (x : Declaration) (ps : List Declaration) → x ∷ ps ≡ [] → ⊥
 no-part x ps e = let z : ◌≡◌ {A = ℕ} 0 1 = cc in omega arith
 
 -- a part is owned
-some-package : (p : ℕ) (x : Part) (ps : List Part) → (p ≡ 0 → x ∷ ps ≡ []) → 0 < p
+some-package : (p : ℕ) (x : Declaration) (ps : List Declaration) → (p ≡ 0 → x ∷ ps ≡ []) → 0 < p
 some-package zero x ps h = absurd (no-part x ps (h refl))
 some-package (suc p) x ps h = omega arith
 
-pub dependency-may : (p d : ℕ) (ks : List Key) (x : Dependency) (ps : List Part) (gs : Graph) → May p d ks (dependency x ∷ ps) gs → (0 < p) × (d < most_dependencies) × LawfulDependency x × May p (d + 1) ks ps gs
+pub dependency-may : (p d : ℕ) (ks : List Key) (x : Dependency) (ps : List Declaration) (gs : Graph) → May p d ks (dependency x ∷ ps) gs → (0 < p) × (d < max_dependencies) × LawfulDependency x × May p (d + 1) ks ps gs
 dependency-may p d ks x ps gs m =
     let some : 0 < p = some-package p (dependency x) ps m.owned in (
       some,
       omega (arith, m.few_dependencies),
-      m.parts.0,
+      m.declarations.0,
       record {
         owned = λ z. absurd (omega arith);
-        parts = m.parts.1;
+        declarations = m.declarations.1;
         new = m.new;
         apart = m.apart;
         lawful = m.lawful;
@@ -181,16 +181,16 @@ dependency-may p d ks x ps gs m =
       },
     )
 
-pub feature-may : (p d : ℕ) (ks : List Key) (x : Feature) (ps : List Part) (gs : Graph) → Owners p ks → May p d ks (feature x ∷ ps) gs → (0 < p) × (length ks < most_features) × (has_key (p - 1) x.name ks ≡ false) × LawfulFeature x × May p d (ks ++ key (p - 1) x.name ∷ []) ps gs × Owners p (ks ++ key (p - 1) x.name ∷ [])
+pub feature-may : (p d : ℕ) (ks : List Key) (x : Feature) (ps : List Declaration) (gs : Graph) → Owners p ks → May p d ks (feature x ∷ ps) gs → (0 < p) × (length ks < max_features) × (has_key (p - 1) x.name ks ≡ false) × LawfulFeature x × May p d (ks ++ key (p - 1) x.name ∷ []) ps gs × Owners p (ks ++ key (p - 1) x.name ∷ [])
 feature-may p d ks x ps gs own m =
     let some : 0 < p = some-package p (feature x) ps m.owned in (
       some,
       omega (arith, m.few_features),
       m.new.0,
-      m.parts.0,
+      m.declarations.0,
       record {
         owned = λ z. absurd (omega arith);
-        parts = m.parts.1;
+        declarations = m.declarations.1;
         new = all_push (p - 1) x.name ks (features_in ps) m.new.1 m.apart.0;
         apart = m.apart.1;
         lawful = m.lawful;
@@ -202,16 +202,16 @@ feature-may p d ks x ps gs own m =
     )
 
 -- what is left of a package, the packages after it, the end record, and the rest
-abbrev pub tail_bytes : List Part → Graph → List ℕ → List ℕ
-tail_bytes ps gs rest = flat_map part_bytes ps ++ (flat_map package_bytes gs ++ (end_bytes ++ rest))
+abbrev pub tail_bytes : List Declaration → Graph → List ℕ → List ℕ
+tail_bytes ps gs rest = flat_map declaration_bytes ps ++ (flat_map package_bytes gs ++ (end_bytes ++ rest))
 
-pub part-bytes : (x : Part) (ps : List Part) (gs : Graph) (rest : List ℕ) → tail_bytes (x ∷ ps) gs rest ≡ part_bytes x ++ tail_bytes ps gs rest
-part-bytes x ps gs rest = append_assoc (part_bytes x) (flat_map part_bytes ps) (flat_map package_bytes gs ++ (end_bytes ++ rest))
+pub part-bytes : (x : Declaration) (ps : List Declaration) (gs : Graph) (rest : List ℕ) → tail_bytes (x ∷ ps) gs rest ≡ declaration_bytes x ++ tail_bytes ps gs rest
+part-bytes x ps gs rest = append_assoc (declaration_bytes x) (flat_map declaration_bytes ps) (flat_map package_bytes gs ++ (end_bytes ++ rest))
 
-pub package-bytes : (top : List ℕ) (ps : List Part) (gs : Graph) (rest : List ℕ) → ((top ++ flat_map part_bytes ps) ++ flat_map package_bytes gs) ++ (end_bytes ++ rest) ≡ top ++ tail_bytes ps gs rest
+pub package-bytes : (top : List ℕ) (ps : List Declaration) (gs : Graph) (rest : List ℕ) → ((top ++ flat_map declaration_bytes ps) ++ flat_map package_bytes gs) ++ (end_bytes ++ rest) ≡ top ++ tail_bytes ps gs rest
 package-bytes top ps gs rest =
-    append_assoc (top ++ flat_map part_bytes ps) (flat_map package_bytes gs) (end_bytes ++ rest)
-    ∙ append_assoc top (flat_map part_bytes ps) (flat_map package_bytes gs ++ (end_bytes ++ rest))
+    append_assoc (top ++ flat_map declaration_bytes ps) (flat_map package_bytes gs) (end_bytes ++ rest)
+    ∙ append_assoc top (flat_map declaration_bytes ps) (flat_map package_bytes gs ++ (end_bytes ++ rest))
 
 pub graph-bytes : (g : Graph) (rest : List ℕ) → encode g ++ rest ≡ header_bytes ++ tail_bytes [] g rest
 graph-bytes g rest = ap (λ z. header_bytes ++ z) (append_assoc (flat_map package_bytes g) end_bytes rest)

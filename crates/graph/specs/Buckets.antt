@@ -1,10 +1,10 @@
 -- The index that finds features, or dependencies, by package and name: lists of entries, one for each bucket.
 use Rattle.std.specs.Prelude.{◌≡◌, ℕ, zero, suc, ◌+◌, ◌*◌, ◌%◌, ◌<◌, true, cond, List, [], map, length, take, Some, None, Option, slice_index_or}
 use Rattle.std.specs.List.{fold}
-use Rattle.graph.specs.declared.index.Entry.{Entry}
+use Rattle.graph.specs.declared.index.IndexEntry.{IndexEntry}
 use Rattle.graph.specs.declared.index.Key as code
 use Rattle.graph.specs.Keys.{Key, is_key}
-use Rattle.graph.specs.Limits.{most_features}
+use Rattle.graph.specs.Limits.{max_features}
 
 -- how many buckets there are, and what the hash is multiplied by at each byte of a name
 abbrev pub buckets : ℕ
@@ -24,19 +24,19 @@ bucket_of owner name = fold hash_step (owner % buckets) name
 abbrev pub key_view : code.Key → Key
 key_view k = record { owner = k.owner; name = k.name.now }
 
-abbrev pub key_of : Entry → Key
+abbrev pub key_of : IndexEntry → Key
 key_of e = key_view e.key
 
-abbrev pub blank : Entry
+abbrev pub blank : IndexEntry
 blank = record { key = record { owner = 0; name = record { ref_ptr = (0, 0); now = [] } }; next = None }
 
-abbrev pub entry_at : List Entry → ℕ → Entry
+abbrev pub entry_at : List IndexEntry → ℕ → IndexEntry
 entry_at entries k = slice_index_or entries k blank
 
-abbrev pub keys_of : List Entry → ℕ → List Key
+abbrev pub keys_of : List IndexEntry → ℕ → List Key
 keys_of entries n = map key_of (take n entries)
 
-abbrev pub bucket_at : List Entry → ℕ → ℕ
+abbrev pub bucket_at : List IndexEntry → ℕ → ℕ
 bucket_at entries k = bucket_of (key_of (entry_at entries k)).owner (key_of (entry_at entries k)).name
 
 -- one past a number, and 0 for none
@@ -48,8 +48,8 @@ abbrev pub head_of : List (Option ℕ) → ℕ → Option ℕ
 head_of heads h = slice_index_or heads h None
 
 -- The lists of the buckets are whole: of the first n entries,
-pub record Linked (entries : List Entry) (heads : List (Option ℕ)) (n : ℕ) : Type 0 where
-  pub full : length entries ≡ most_features
+pub record Linked (entries : List IndexEntry) (heads : List (Option ℕ)) (n : ℕ) : Type 0 where
+  pub full : length entries ≡ max_features
   -- none is newer than the head of its bucket, which is one of that bucket;
   pub newest : (k : ℕ) → k < n → k < past (head_of heads (bucket_at entries k))
   pub headed : (h k : ℕ) → head_of heads h ≡ Some k → (k < n) × (bucket_at entries k ≡ h)
@@ -58,14 +58,14 @@ pub record Linked (entries : List Entry) (heads : List (Option ℕ)) (n : ℕ) :
   pub nexted : (k j : ℕ) → k < n → (entry_at entries k).next ≡ Some j → (j < k) × (bucket_at entries j ≡ bucket_at entries k)
 
 -- the newest of the first n entries that has a key
-abbrev pub newest_of : List Entry → ℕ → List ℕ → ℕ → Option ℕ
+abbrev pub newest_of : List IndexEntry → ℕ → List ℕ → ℕ → Option ℕ
 newest_of entries owner name zero = None
 newest_of entries owner name (suc n) = cond (is_key owner name (key_of (entry_at entries n))) (Some n) (newest_of entries owner name n)
 
 -- entry k, one of the first n, has a key; and an entry, if any, is one of the bucket of a key
-abbrev pub IsEntry : List Entry → ℕ → ℕ → List ℕ → ℕ → Type 0
+abbrev pub IsEntry : List IndexEntry → ℕ → ℕ → List ℕ → ℕ → Type 0
 IsEntry entries n owner name k = (k < n) × (is_key owner name (key_of (entry_at entries k)) ≡ true)
 
-abbrev pub InBucket : List Entry → ℕ → ℕ → List ℕ → Option ℕ → Type 0
+abbrev pub InBucket : List IndexEntry → ℕ → ℕ → List ℕ → Option ℕ → Type 0
 InBucket entries n owner name None = Unit {0}
 InBucket entries n owner name (Some k) = (k < n) × (bucket_at entries k ≡ bucket_of owner name)

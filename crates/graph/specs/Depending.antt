@@ -1,10 +1,10 @@
 -- All dependencies of a graph, and the index of them.
 use Rattle.std.specs.Prelude.{◌≡◌, ℕ, ◌+◌, List, [], ◌∷◌, ◌++◌, map, reverse}
-use Rattle.records.specs.Graphs.{Dependency, Part, dependency, feature, Graph}
+use Rattle.records.specs.Graphs.{Dependency, Declaration, dependency, feature, Graph}
 use Rattle.graph.specs.declared.index.Index.{Index}
 use Rattle.graph.specs.Keys.{Key}
 use Rattle.graph.specs.Law.{dependencies_in}
-use Rattle.graph.specs.Second.{Placed}
+use Rattle.graph.specs.Second.{DeclarationPlace}
 use Rattle.graph.specs.Views.{keys}
 
 -- a dependency, and the number of its package
@@ -18,7 +18,7 @@ owned p d = record { owner = p; dependency = d }
 -- those of packages numbered from p on, in file order
 abbrev pub depending : ℕ → Graph → List Depending
 depending p [] = []
-depending p (a ∷ g) = map (owned p) (dependencies_in a.parts) ++ depending (p + 1) g
+depending p (a ∷ g) = map (owned p) (dependencies_in a.declarations) ++ depending (p + 1) g
 
 abbrev pub dependency_key : Depending → Key
 dependency_key x = record { owner = x.owner; name = x.dependency.name }
@@ -28,11 +28,11 @@ abbrev pub Indexed : Index → Graph → Type 0
 Indexed index g = keys index ≡ reverse (map dependency_key (depending 0 g))
 
 -- package and name of a record, if it is a dependency
-abbrev pub key_if : ℕ → Part → List Key
+abbrev pub key_if : ℕ → Declaration → List Key
 key_if p (dependency d) = dependency_key (owned p d) ∷ []
 key_if p (feature f) = []
 
 -- the dependencies among some records by package and name, the last one first
-abbrev pub last_keys : List Placed → List Key
+abbrev pub last_keys : List DeclarationPlace → List Key
 last_keys [] = []
-last_keys (x ∷ xs) = last_keys xs ++ key_if x.owner x.part
+last_keys (x ∷ xs) = last_keys xs ++ key_if x.owner x.declaration

@@ -1,46 +1,46 @@
 -- What a directory tells of the graph of its file.
 use Rattle.std.specs.Prelude.{◌≡◌, ℕ, ◌+◌, ◌<◌, false, List, ◌++◌, length, drop, Some, Ok, Err, Result, slice_index, slice_index_or}
-use Rattle.records.specs.Graphs.{Part, dependency, feature, Graph}
-use Rattle.records.specs.Encoding.{part_bytes, encode}
+use Rattle.records.specs.Graphs.{Declaration, dependency, feature, Graph}
+use Rattle.records.specs.Encoding.{declaration_bytes, encode}
 use Rattle.graph.specs.declared.contents.Counts.{Counts}
 use Rattle.graph.specs.declared.faults.FileFault.{FileFault}
 use Rattle.graph.specs.declared.index.Index.{Index}
 use Rattle.graph.specs.declared.tables.PackageEntry.{PackageEntry}
-use Rattle.graph.specs.declared.tables.PartEntry.{PartEntry}
+use Rattle.graph.specs.declared.tables.DeclarationEntry.{DeclarationEntry}
 use Rattle.graph.specs.declared.tables.Directory.{Directory}
 use Rattle.graph.specs.Reading.{first_reading}
-use Rattle.graph.specs.Law.{LawfulPart, Says, dependency_count, feature_count}
+use Rattle.graph.specs.Law.{LawfulDeclaration, Says, dependency_count, feature_count}
 use Rattle.graph.specs.Depending.{Depending, owned, Indexed}
 use Rattle.graph.specs.Gathered.{keys_from}
-use Rattle.graph.specs.Parts.{part_in}
+use Rattle.graph.specs.Declarations.{declaration_in}
 use Rattle.graph.specs.Places.{no_dependency, no_feature, dependencies_of, features_of, proc_of, dependencies_before, features_before}
-use Rattle.graph.specs.Second.{Placed, placed}
+use Rattle.graph.specs.Second.{DeclarationPlace, declaration_places}
 use Rattle.graph.specs.Views.{keys}
 
 -- the record of a lawful part begins at this place of the file
-pub record RecordAt (file : List ℕ) (start : ℕ) (p : Part) : Type 0 where
+pub record RecordAt (file : List ℕ) (start : ℕ) (p : Declaration) : Type 0 where
   pub rest : List ℕ
-  pub bytes : drop start file ≡ part_bytes p ++ rest
-  pub lawful : LawfulPart p
+  pub bytes : drop start file ≡ declaration_bytes p ++ rest
+  pub lawful : LawfulDeclaration p
 
 -- defaults for what is read from a list
 abbrev pub no_package : PackageEntry
 no_package = record { proc_mark = false; dependency = 0; feature = 0 }
 
-abbrev pub no_part : PartEntry
-no_part = record { start = 0; owner = 0 }
+abbrev pub no_declaration_entry : DeclarationEntry
+no_declaration_entry = record { start = 0; owner = 0 }
 
 abbrev pub no_depending : Depending
 no_depending = owned 0 no_dependency
 
-abbrev pub no_placed : Placed
-no_placed = record { number = 0; start = 0; owner = 0; part = dependency no_dependency }
+abbrev pub no_place : DeclarationPlace
+no_place = record { number = 0; start = 0; owner = 0; declaration = dependency no_dependency }
 
 -- the first n entries of the table of all records are those of these records
-pub record Places (file : List ℕ) (entries : List PartEntry) (n : ℕ) (xs : List Placed) : Type 0 where
+pub record Places (file : List ℕ) (entries : List DeclarationEntry) (n : ℕ) (xs : List DeclarationPlace) : Type 0 where
   pub count : n ≡ length xs
-  pub owners : (j : ℕ) → j < length xs → (slice_index_or entries j no_part).owner ≡ (slice_index_or xs j no_placed).owner
-  pub parts : (j : ℕ) → j < length xs → part_in (drop (slice_index_or entries j no_part).start file) ≡ Some (slice_index_or xs j no_placed).part
+  pub owners : (j : ℕ) → j < length xs → (slice_index_or entries j no_declaration_entry).owner ≡ (slice_index_or xs j no_place).owner
+  pub declarations : (j : ℕ) → j < length xs → declaration_in (drop (slice_index_or entries j no_declaration_entry).start file) ≡ Some (slice_index_or xs j no_place).declaration
 
 -- the first reading has accepted the graph g of the file, and leaves this index and these counts
 pub record Accepted (index : Index) (counts : Counts) (g : Graph) : Type 0 where
@@ -56,7 +56,7 @@ pub record Tells (dir : Directory) (g : Graph) : Type 0 where
   pub packaged : (p : ℕ) → p < length g → slice_index_or dir.packages p no_package ≡ record { proc_mark = proc_of g p; dependency = dependencies_before g p; feature = features_before g p }
   pub depending : (p k : ℕ) → k < length (dependencies_of g p) → RecordAt dir.index.file.now (slice_index dir.dependencies (dependencies_before g p + k)) (dependency (slice_index_or (dependencies_of g p) k no_dependency))
   pub featuring : (p k : ℕ) → k < length (features_of g p) → RecordAt dir.index.file.now (slice_index dir.features (features_before g p + k)) (feature (slice_index_or (features_of g p) k no_feature))
-  pub parted : (j : ℕ) → j < length (placed g) → RecordAt dir.index.file.now (slice_index_or dir.parts j no_part).start (slice_index_or (placed g) j no_placed).part × (slice_index_or dir.parts j no_part ≡ record { start = (slice_index_or (placed g) j no_placed).start; owner = (slice_index_or (placed g) j no_placed).owner })
+  pub parted : (j : ℕ) → j < length (declaration_places g) → RecordAt dir.index.file.now (slice_index_or dir.declarations j no_declaration_entry).start (slice_index_or (declaration_places g) j no_place).declaration × (slice_index_or dir.declarations j no_declaration_entry ≡ record { start = (slice_index_or (declaration_places g) j no_place).start; owner = (slice_index_or (declaration_places g) j no_place).owner })
 
 -- what a reading answers, with the directory that it leaves
 abbrev pub ReadAs : List ℕ → Result (Unit {0}) FileFault → Directory → Type 0

@@ -1,13 +1,13 @@
 -- The worked example: a graph of three packages, and the same with a feature that is not there.
 use Rattle.std.specs.Prelude.{◌≡◌, ℕ, ◌+◌, ◌≤◌, true, false, List, [], ◌∷◌, length, Ok, Err, codes}
 use Rattle.text.specs.Forms.{plain, switch, weak}
-use Rattle.records.specs.declared.bodies.Edge.TheVariants.{Normal, Build}
+use Rattle.lanes.specs.declared.edge_kinds.EdgeKind.TheVariants.{Normal, Build}
 use Rattle.records.specs.declared.faults.RecordFault.TheVariants.{Unknown}
 use Rattle.records.specs.Graphs.{dependency, feature, Package, Graph}
 use Rattle.records.specs.Encoding.{encode}
 use Rattle.graph.specs.declared.faults.FileFault.{FileFault}
 use Rattle.graph.specs.declared.faults.FileFault.TheVariants.{Record}
-use Rattle.graph.specs.declared.refusals.Refusal.{Refusal}
+use Rattle.refusals.specs.Bytes.{byte_of}
 use Rattle.graph.specs.declared.rows.Opened.{Opened}
 use Rattle.graph.specs.Law.{dependency_count, feature_count}
 use Rattle.graph.specs.Opening.{over, open_graph}
@@ -19,7 +19,7 @@ abbrev pub app : List ℕ → Package
 app value = record {
   proc = false;
   name = codes "app";
-  parts =
+  declarations =
       dependency (record { end = 1; edge = Normal; optional = true; defaults = false; name = codes "core"; asks = [] })
       ∷ dependency (record { end = 2; edge = Build; optional = false; defaults = true; name = codes "gen"; asks = [] })
       ∷ feature (record { name = codes "default"; values = plain value ∷ [] })
@@ -31,7 +31,7 @@ abbrev pub core : Package
 core = record {
   proc = false;
   name = codes "core";
-  parts =
+  declarations =
       feature (record { name = codes "std"; values = [] })
       ∷ feature (record { name = codes "rt"; values = plain (codes "std") ∷ [] })
       ∷ [];
@@ -41,7 +41,7 @@ abbrev pub gen : Package
 gen = record {
   proc = false;
   name = codes "gen";
-  parts =
+  declarations =
       dependency (record { end = 1; edge = Normal; optional = false; defaults = false; name = codes "core"; asks = codes "rt" ∷ [] })
       ∷ [];
 }
@@ -72,10 +72,6 @@ example_words =
     ∷ 5 ∷ none ∷ 9 ∷ 0 ∷ 1
     ∷ []
 
--- the three places of a refusal, added up: the byte that is shown to users
-abbrev pub byte_of : Refusal → ℕ
-byte_of r = (r.start + r.field) + r.prefix
-
 abbrev pub misnamed_fault : FileFault
 misnamed_fault = Record (record { number = 4; start = 52; fault = Unknown 16 })
 
@@ -86,5 +82,5 @@ pub record Examples : Type 0 where
   pub size : length example_words ≡ 54
   pub opens : (words : List ℕ) → 54 ≤ length words → open_graph (encode example) words ≡ Ok (example_opened, over example_words words)
   pub refuses : (words : List ℕ) → open_graph (encode misnamed) words ≡ Err misnamed_fault
-  pub refusal : refusal_of misnamed_fault ≡ record { number = 7; «record» = 4; start = 52; field = 16; prefix = 0 }
+  pub refusal : refusal_of misnamed_fault ≡ record { number = 7; record_number = 4; start = 52; field = 16; prefix = 0 }
   pub byte : byte_of (refusal_of misnamed_fault) ≡ 68

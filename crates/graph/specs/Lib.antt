@@ -13,9 +13,9 @@ pub mod Directory
 pub mod OpeningLaw
 pub mod Buckets
 pub mod Filling
-pub mod Sheets
-pub mod Parts
-pub mod Laying
+pub mod RowWriters
+pub mod Declarations
+pub mod RowLists
 pub mod Namesakes
 pub mod Checks
 pub mod Refusals

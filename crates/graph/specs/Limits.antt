@@ -2,28 +2,28 @@
 use Rattle.std.specs.Prelude.{ℕ}
 
 -- the most bytes, packages, dependencies and features
-abbrev pub most_bytes : ℕ
-most_bytes = 1048576
+abbrev pub max_bytes : ℕ
+max_bytes = 1048576
 
-abbrev pub most_packages : ℕ
-most_packages = 4096
+abbrev pub max_packages : ℕ
+max_packages = 4096
 
-abbrev pub most_dependencies : ℕ
-most_dependencies = 16384
+abbrev pub max_dependencies : ℕ
+max_dependencies = 16384
 
-abbrev pub most_features : ℕ
-most_features = 16384
+abbrev pub max_features : ℕ
+max_features = 16384
 
 -- the most dependencies and features together; and the most items, which are these and the packages
-abbrev pub most_parts : ℕ
-most_parts = 32768
+abbrev pub max_declarations : ℕ
+max_declarations = 32768
 
-abbrev pub most_local_items : ℕ
-most_local_items = 36864
+abbrev pub max_local_items : ℕ
+max_local_items = 36864
 
 -- the most rule rows
-abbrev pub most_rule_rows : ℕ
-most_rule_rows = 262144
+abbrev pub max_rule_rows : ℕ
+max_rule_rows = 262144
 
 -- how many words stand before the rows, and how many a row has
 abbrev pub head_words : ℕ

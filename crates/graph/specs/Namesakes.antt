@@ -7,7 +7,7 @@ use Rattle.graph.specs.declared.namesakes.Namesake as code
 use Rattle.graph.specs.declared.namesakes.Namesakes as iterator
 use Rattle.graph.specs.Depending.{Depending, depending}
 use Rattle.graph.specs.Buckets.{past}
-use Rattle.graph.specs.Laying.{its}
+use Rattle.graph.specs.RowLists.{its}
 use Rattle.graph.specs.Places.{dep, dependencies_of, number}
 use Rattle.graph.specs.Rules.{each, when}
 

@@ -6,7 +6,7 @@ use Rattle.graph.specs.declared.faults.FileFault.{FileFault}
 use Rattle.graph.specs.declared.faults.FileFault.TheVariants.{Record, Rows, Memory}
 use Rattle.graph.specs.declared.rows.Opened.{Opened}
 use Rattle.graph.specs.Reading.{first_reading}
-use Rattle.graph.specs.Limits.{most_rule_rows, head_words, row_width}
+use Rattle.graph.specs.Limits.{max_rule_rows, head_words, row_width}
 use Rattle.graph.specs.Law.{dependency_count, feature_count}
 use Rattle.graph.specs.Rules.{rows, graph_words}
 use Rattle.graph.specs.Second.{second_reading}
@@ -27,15 +27,15 @@ on_graph (Ok p) k = k p.0 p.1
 on_graph (Err e) k = Err e
 
 -- the rows of a graph that was read as n bytes: the limit of rows, then the room, then what the words hold
-abbrev pub laid_for : Graph → ℕ → List ℕ → Result (Opened × List ℕ) FileFault
-laid_for g n words =
-    cond (nat_lt most_rule_rows (length (rows g))) (Err Rows)
+abbrev pub words_for : Graph → ℕ → List ℕ → Result (Opened × List ℕ) FileFault
+words_for g n words =
+    cond (nat_lt max_rule_rows (length (rows g))) (Err Rows)
     (cond (nat_lt (length words) (head_words + row_width * length (rows g))) (Err Memory)
     (Ok (opened_as g n, over (graph_words g) words)))
 
 -- both readings, then the rows
 abbrev pub open_graph : List ℕ → List ℕ → Result (Opened × List ℕ) FileFault
-open_graph file words = on_graph (first_reading file) (λ g n. on_checked (second_reading g) (laid_for g n words))
+open_graph file words = on_graph (first_reading file) (λ g n. on_checked (second_reading g) (words_for g n words))
 
 -- the answer, and what the words hold afterwards: a refusal leaves them as they were
 abbrev pub leaving : List ℕ → Result (Opened × List ℕ) FileFault → Result Opened FileFault × List ℕ

@@ -4,7 +4,7 @@ use Rattle.std.specs.List.{flat_map, AllByRecursion}
 use Rattle.text.specs.Forms.{Form, plain, switch, strong, weak}
 use Rattle.records.specs.declared.faults.RecordFault.{RecordFault}
 use Rattle.records.specs.declared.faults.RecordFault.TheVariants.{Cut, Stray, Ragged, Mark, Text, Twice, Unknown, Many}
-use Rattle.records.specs.Graphs.{Dependency, Feature, Part, dependency, feature, Graph}
+use Rattle.records.specs.Graphs.{Dependency, Feature, Declaration, dependency, feature, Graph}
 use Rattle.records.specs.Encoding.{record_bytes, encode}
 use Rattle.graph.specs.declared.faults.FileFault.{FileFault}
 use Rattle.graph.specs.declared.faults.FileFault.TheVariants.{Record, Size, Rows, Memory}
@@ -13,8 +13,8 @@ use Rattle.graph.specs.Law.{Says}
 use Rattle.graph.specs.Places.{unit, dep, feat, dependencies_of, features_of, no_dependency, no_feature}
 use Rattle.graph.specs.Rules.{Rule, lane_of, rules, rows, graph_words}
 use Rattle.graph.specs.Opening.{over, opened_as}
-use Rattle.graph.specs.Second.{Placed, placed}
-use Rattle.graph.specs.Limits.{most_bytes, most_rule_rows, head_words, row_width}
+use Rattle.graph.specs.Second.{DeclarationPlace, declaration_places}
+use Rattle.graph.specs.Limits.{max_bytes, max_rule_rows, head_words, row_width}
 
 -- x is one of these: by recursion, and not by a place as the library's `Contains`, so that each rule's case takes it apart
 abbrev pub In : {A : Type 0} → A → List A → Type 0
@@ -59,17 +59,17 @@ pub record Resolved (g : Graph) : Type 0 where
 pub record Opens (file words : List ℕ) (g : Graph) : Type 0 where
   pub says : Says file g
   pub resolved : Resolved g
-  pub few : length (rows g) ≤ most_rule_rows
+  pub few : length (rows g) ≤ max_rule_rows
   pub room : head_words + row_width * length (rows g) ≤ length words
 
 -- what this dependency or feature of package p refers to is there
-abbrev pub Refers : Graph → ℕ → Part → Type 0
+abbrev pub Refers : Graph → ℕ → Declaration → Type 0
 Refers g p (dependency d) = (d.end < length g) × AllByRecursion (HasFeature g d.end) d.asks
 Refers g p (feature f) = AllByRecursion (Resolves g p) f.values
 
 -- the file is no longer than may be, and says no lawful graph
 abbrev pub SaysNone : List ℕ → Type 0
-SaysNone file = (length file ≤ most_bytes) × ((g : Graph) → Says file g → ⊥)
+SaysNone file = (length file ≤ max_bytes) × ((g : Graph) → Says file g → ⊥)
 
 -- the file begins with so many records, each with a kind and a body, and the next one begins at this place
 pub record Behind (file : List ℕ) (number start : ℕ) : Type 0 where
@@ -83,11 +83,11 @@ pub record Behind (file : List ℕ) (number start : ℕ) : Type 0 where
 pub record RefersAmiss (file : List ℕ) (number start : ℕ) : Type 0 where
   pub graph : Graph
   pub says : Says file graph
-  pub at : Placed
-  pub among : In at (placed graph)
+  pub at : DeclarationPlace
+  pub among : In at (declaration_places graph)
   pub number_is : number ≡ at.number
   pub start_is : start ≡ at.start
-  pub amiss : Refers graph at.owner at.part → ⊥
+  pub amiss : Refers graph at.owner at.declaration → ⊥
 
 -- what a file lacks that is refused for a record: with Unknown, something that this record refers to, and with all other
 -- faults, a lawful graph; the record begins behind those before it
@@ -103,10 +103,10 @@ RecordLacks file number start Many = SaysNone file × Behind file number start
 
 -- what a file or the words lack where opening is refused so
 abbrev pub Lacks : List ℕ → List ℕ → FileFault → Type 0
-Lacks file words Size = most_bytes < length file
+Lacks file words Size = max_bytes < length file
 Lacks file words (Record x) = RecordLacks file x.number x.start x.fault
-Lacks file words Rows = (g : Graph) × Says file g × Resolved g × (most_rule_rows < length (rows g))
-Lacks file words Memory = (g : Graph) × Says file g × Resolved g × (length (rows g) ≤ most_rule_rows) × (length words < head_words + row_width * length (rows g))
+Lacks file words Rows = (g : Graph) × Says file g × Resolved g × (max_rule_rows < length (rows g))
+Lacks file words Memory = (g : Graph) × Says file g × Resolved g × (length (rows g) ≤ max_rule_rows) × (length words < head_words + row_width * length (rows g))
 
 -- Opening accepts exactly such a file, as that graph, of which there is one; where it is refused, what the refusal tells is
 -- lacking. More may be.
@@ -117,29 +117,29 @@ pub record OpeningLaw (file words : List ℕ) (r : Result (Opened × List ℕ) F
   pub refused : (e : FileFault) → r ≡ Err e → Lacks file words e
 
 -- Which rules stand.
-pub data Stands (g : Graph) : Rule → Type 0 where
+pub data IsRuleOf (g : Graph) : Rule → Type 0 where
   -- a unit needs its dependencies that are not optional
   needs : {p k : ℕ} {d : Dependency} → DependencyAt g p k d → d.optional ≡ false →
-      Stands g (record { from = unit p; mate = None; to = dep p k; lane = Some (lane_of g d); cross = false })
+      IsRuleOf g (record { from = unit p; with = None; to = dep p k; lane = Some (lane_of g d); cross = false })
   -- a dependency needs the unit of its end,
   builds : {p k : ℕ} {d : Dependency} → DependencyAt g p k d →
-      Stands g (record { from = dep p k; mate = None; to = unit d.end; lane = Some (lane_of g d); cross = true })
+      IsRuleOf g (record { from = dep p k; with = None; to = unit d.end; lane = Some (lane_of g d); cross = true })
   -- the feature default of its end, if it is wanted and there,
   defaults : {p k j : ℕ} {d : Dependency} → DependencyAt g p k d → d.defaults ≡ true → NamedAt g d.end j (codes "default") →
-      Stands g (record { from = dep p k; mate = None; to = feat d.end j; lane = Some (lane_of g d); cross = true })
+      IsRuleOf g (record { from = dep p k; with = None; to = feat d.end j; lane = Some (lane_of g d); cross = true })
   -- and the features that it asks for
   asks : {p k j : ℕ} {d : Dependency} {n : List ℕ} → DependencyAt g p k d → In n d.asks → NamedAt g d.end j n →
-      Stands g (record { from = dep p k; mate = None; to = feat d.end j; lane = Some (lane_of g d); cross = true })
+      IsRuleOf g (record { from = dep p k; with = None; to = feat d.end j; lane = Some (lane_of g d); cross = true })
   -- a plain value turns on a feature of the same package
   plainly : {p j i : ℕ} {f : Feature} {n : List ℕ} → FeatureAt g p j f → In (plain n) f.values → NamedAt g p i n →
-      Stands g (record { from = feat p j; mate = None; to = feat p i; lane = None; cross = false })
+      IsRuleOf g (record { from = feat p j; with = None; to = feat p i; lane = None; cross = false })
   -- a switch or a strong value turns on each optional dependency that it names
   switches : {p j k : ℕ} {f : Feature} {d : Dependency} {n : List ℕ} → FeatureAt g p j f → In (switch n) f.values ⊎ ((x : List ℕ) × In (strong n x) f.values) → DependencyAt g p k d → d.name ≡ n → d.optional ≡ true →
-      Stands g (record { from = feat p j; mate = None; to = dep p k; lane = Some (lane_of g d); cross = false })
+      IsRuleOf g (record { from = feat p j; with = None; to = dep p k; lane = Some (lane_of g d); cross = false })
   -- a strong or a weak value, with each dependency that it names, turns on the feature of its end
   joins : {p j k i : ℕ} {f : Feature} {d : Dependency} {n x : List ℕ} → FeatureAt g p j f → In (strong n x) f.values ⊎ In (weak n x) f.values → DependencyAt g p k d → d.name ≡ n → NamedAt g d.end i x →
-      Stands g (record { from = feat p j; mate = Some (dep p k); to = feat d.end i; lane = Some (lane_of g d); cross = true })
+      IsRuleOf g (record { from = feat p j; with = Some (dep p k); to = feat d.end i; lane = Some (lane_of g d); cross = true })
 
 -- the rules of a graph are exactly those that stand
 abbrev pub RulesLaw : Graph → Type 0
-RulesLaw g = (ρ : Rule) → (In ρ (rules g) → Stands g ρ) × (Stands g ρ → In ρ (rules g))
+RulesLaw g = (ρ : Rule) → (In ρ (rules g) → IsRuleOf g ρ) × (IsRuleOf g ρ → In ρ (rules g))

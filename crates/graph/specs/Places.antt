@@ -1,7 +1,7 @@
 -- Items of a graph by place, and their numbers.
 use Rattle.std.specs.Prelude.{ℕ, zero, suc, ◌+◌, Bool, false, List, [], ◌∷◌, length}
-use Rattle.records.specs.declared.bodies.Edge.TheVariants.{Normal}
-use Rattle.records.specs.Graphs.{Dependency, Feature, Part, Graph}
+use Rattle.lanes.specs.declared.edge_kinds.EdgeKind.TheVariants.{Normal}
+use Rattle.records.specs.Graphs.{Dependency, Feature, Declaration, Graph}
 use Rattle.graph.specs.Law.{dependencies_in, features_in, dependency_count, feature_count}
 
 -- the unit of package p, its dependency k, its feature k
@@ -11,16 +11,16 @@ pub data Item : Type 0 where
   feat : (p k : ℕ) → Item
 
 -- what belongs to package p; nothing beyond the packages
-abbrev pub parts_of : Graph → ℕ → List Part
-parts_of [] p = []
-parts_of (a ∷ g) zero = a.parts
-parts_of (a ∷ g) (suc p) = parts_of g p
+abbrev pub declarations_of : Graph → ℕ → List Declaration
+declarations_of [] p = []
+declarations_of (a ∷ g) zero = a.declarations
+declarations_of (a ∷ g) (suc p) = declarations_of g p
 
 abbrev pub dependencies_of : Graph → ℕ → List Dependency
-dependencies_of g p = dependencies_in (parts_of g p)
+dependencies_of g p = dependencies_in (declarations_of g p)
 
 abbrev pub features_of : Graph → ℕ → List Feature
-features_of g p = features_in (parts_of g p)
+features_of g p = features_in (declarations_of g p)
 
 -- what is read of a list beyond its end
 abbrev pub no_dependency : Dependency
@@ -39,12 +39,12 @@ proc_of (a ∷ g) (suc p) = proc_of g p
 abbrev pub dependencies_before : Graph → ℕ → ℕ
 dependencies_before [] p = 0
 dependencies_before (a ∷ g) zero = 0
-dependencies_before (a ∷ g) (suc p) = length (dependencies_in a.parts) + dependencies_before g p
+dependencies_before (a ∷ g) (suc p) = length (dependencies_in a.declarations) + dependencies_before g p
 
 abbrev pub features_before : Graph → ℕ → ℕ
 features_before [] p = 0
 features_before (a ∷ g) zero = 0
-features_before (a ∷ g) (suc p) = length (features_in a.parts) + features_before g p
+features_before (a ∷ g) (suc p) = length (features_in a.declarations) + features_before g p
 
 -- the local number of an item: units first, then dependencies, then features, each in file order
 abbrev pub number : Graph → Item → ℕ

@@ -9,30 +9,30 @@ use Rattle.records.specs.Encoding.{kind_number}
 use Rattle.records.specs.Frames.{Frame, frame_of}
 use Rattle.records.specs.Fields.{View, Field, and_then, give, name_field, header_field, closed_field}
 use Rattle.records.specs.Bodies.{Head, package_field, dependency_field, values_field}
-use Rattle.records.specs.Graphs.{Feature, Part, dependency, feature, Graph}
+use Rattle.records.specs.Graphs.{Feature, Declaration, dependency, feature, Graph}
 use Rattle.graph.specs.declared.faults.InRecord.{InRecord}
 use Rattle.graph.specs.declared.faults.FileFault.{FileFault}
 use Rattle.graph.specs.declared.faults.FileFault.TheVariants.{Record, Size}
 use Rattle.graph.specs.Keys.{Key, has_key}
-use Rattle.graph.specs.Limits.{most_bytes, most_packages, most_dependencies, most_features}
+use Rattle.graph.specs.Limits.{max_bytes, max_packages, max_dependencies, max_features}
 
 -- what a record says
 pub data Content : Type 0 where
   header : Content
   heads : Head → Content
-  part : Part → Content
+  declaration : Declaration → Content
   end : Content
 
 -- where a reading stands: the number and the start of the next record, how many packages and dependencies
 -- are before it, and the features before it
-pub record Stand : Type 0 where
+pub record Cursor : Type 0 where
   pub number : ℕ
   pub start : ℕ
   pub packages : ℕ
   pub dependencies : ℕ
   pub keys : List Key
 
-abbrev pub begin : Stand
+abbrev pub begin : Cursor
 begin = record { number = 0; start = 0; packages = 0; dependencies = 0; keys = [] }
 
 -- which kind may stand here: a header first and only there, dependencies and features only after a package
@@ -65,65 +65,65 @@ feature_field keys owner =
     give (record { name = name.text; values = values }))))
 
 -- the body of a record of a kind; it begins at place 6 of its record
-abbrev pub content_as : Option Kind → Stand → View → Result Content RecordFault
+abbrev pub content_as : Option Kind → Cursor → View → Result Content RecordFault
 content_as None st v = Err Stray
 content_as (Some kind.Header) st v = as_content (λ _. header) (header_field v)
-content_as (Some kind.Package) st v = below st.packages most_packages (as_content heads (package_field v))
-content_as (Some kind.Dependency) st v = below st.dependencies most_dependencies (as_content (λ d. part (dependency d)) (dependency_field v))
-content_as (Some kind.Feature) st v = below (length st.keys) most_features (as_content (λ f. part (feature f)) (feature_field st.keys (st.packages - 1) v))
+content_as (Some kind.Package) st v = below st.packages max_packages (as_content heads (package_field v))
+content_as (Some kind.Dependency) st v = below st.dependencies max_dependencies (as_content (λ d. declaration (dependency d)) (dependency_field v))
+content_as (Some kind.Feature) st v = below (length st.keys) max_features (as_content (λ f. declaration (feature f)) (feature_field st.keys (st.packages - 1) v))
 content_as (Some kind.End) st v = as_content (λ _. end) (closed_field v)
 
-abbrev pub content_of : Stand → Frame → Result Content RecordFault
+abbrev pub content_of : Cursor → Frame → Result Content RecordFault
 content_of st f = content_as (kind_here st.number st.packages f.kind) st (record { left = f.body; place = 6 })
 
 -- a record's fault goes whole into the file's, with the record's number and start
-abbrev pub in_record : Stand → RecordFault → InRecord
+abbrev pub in_record : Cursor → RecordFault → InRecord
 in_record st e = record { number = st.number; start = st.start; fault = e }
 
-pub record Found : Type 0 where
+pub record ReadRecord : Type 0 where
   pub content : Content
   pub frame : Frame
 
-abbrev pub with_content : Stand → Frame → Result Content RecordFault → Result Found InRecord
+abbrev pub with_content : Cursor → Frame → Result Content RecordFault → Result ReadRecord InRecord
 with_content st f (Ok c) = Ok (record { content = c; frame = f })
 with_content st f (Err e) = Err (in_record st e)
 
-abbrev pub with_frame : Stand → Result Frame RecordFault → Result Found InRecord
+abbrev pub with_frame : Cursor → Result Frame RecordFault → Result ReadRecord InRecord
 with_frame st (Ok f) = with_content st f (content_of st f)
 with_frame st (Err e) = Err (in_record st e)
 
 -- the record at the front
-abbrev pub record_at : Stand → List ℕ → Result Found InRecord
+abbrev pub record_at : Cursor → List ℕ → Result ReadRecord InRecord
 record_at st bs = with_frame st (frame_of bs)
 
 abbrev pub is_end : Content → Bool
 is_end header = false
 is_end (heads h) = false
-is_end (part p) = false
+is_end (declaration p) = false
 is_end end = true
 
 -- how a reading stands after a record
 abbrev pub packages_after : Content → ℕ → ℕ
 packages_after header n = n
 packages_after (heads h) n = n + 1
-packages_after (part p) n = n
+packages_after (declaration p) n = n
 packages_after end n = n
 
 abbrev pub dependencies_after : Content → ℕ → ℕ
 dependencies_after header n = n
 dependencies_after (heads h) n = n
-dependencies_after (part (dependency d)) n = n + 1
-dependencies_after (part (feature f)) n = n
+dependencies_after (declaration (dependency d)) n = n + 1
+dependencies_after (declaration (feature f)) n = n
 dependencies_after end n = n
 
 abbrev pub keys_after : Content → ℕ → List Key → List Key
 keys_after header owner ks = ks
 keys_after (heads h) owner ks = ks
-keys_after (part (dependency d)) owner ks = ks
-keys_after (part (feature f)) owner ks = ks ++ record { owner = owner; name = f.name } ∷ []
+keys_after (declaration (dependency d)) owner ks = ks
+keys_after (declaration (feature f)) owner ks = ks ++ record { owner = owner; name = f.name } ∷ []
 keys_after end owner ks = ks
 
-abbrev pub after : Stand → Found → Stand
+abbrev pub after : Cursor → ReadRecord → Cursor
 after st x = record {
   number = st.number + 1;
   start = st.start + (length x.frame.body + 6);
@@ -134,7 +134,7 @@ after st x = record {
 
 -- what is left of a graph: what more belongs to the package at hand, and the packages after it
 pub record Rest : Type 0 where
-  pub parts : List Part
+  pub declarations : List Declaration
   pub packages : Graph
 
 -- what a reading answers: that, and how many bytes are read
@@ -146,26 +146,26 @@ on_rest f (Ok p) = Ok (f p.0, p.1)
 on_rest f (Err e) = Err e
 
 -- a record in front of what is left
-abbrev pub carried : Stand → Found → Content → Reading → Reading
+abbrev pub carried : Cursor → ReadRecord → Content → Reading → Reading
 carried st x header r = r
-carried st x (heads h) r = on_rest (λ l. record { parts = []; packages = record { proc = h.proc; name = h.name; parts = l.parts } ∷ l.packages }) r
-carried st x (part p) r = on_rest (λ l. record { parts = p ∷ l.parts; packages = l.packages }) r
-carried st x end r = Ok (record { parts = []; packages = [] }, st.start + (length x.frame.body + 6))
+carried st x (heads h) r = on_rest (λ l. record { declarations = []; packages = record { proc = h.proc; name = h.name; declarations = l.declarations } ∷ l.packages }) r
+carried st x (declaration p) r = on_rest (λ l. record { declarations = p ∷ l.declarations; packages = l.packages }) r
+carried st x end r = Ok (record { declarations = []; packages = [] }, st.start + (length x.frame.body + 6))
 
-abbrev pub on_found : Stand → (Stand → List ℕ → Reading) → Result Found InRecord → Reading
+abbrev pub on_found : Cursor → (Cursor → List ℕ → Reading) → Result ReadRecord InRecord → Reading
 on_found st k (Ok x) = carried st x x.content (k (after st x) x.frame.after)
 on_found st k (Err e) = Err (Record e)
 
 -- one record, and then k
-abbrev pub one_record : (Stand → List ℕ → Reading) → Stand → List ℕ → Reading
+abbrev pub one_record : (Cursor → List ℕ → Reading) → Cursor → List ℕ → Reading
 one_record k st bs = on_found st k (record_at st bs)
 
 -- at most n records; each has a byte at least, so as many as there are bytes are all
-unfoldable pub at_most : ℕ → Stand → List ℕ → Reading
+unfoldable pub at_most : ℕ → Cursor → List ℕ → Reading
 at_most zero st bs = Err (Record (in_record st Cut))
 at_most (suc n) st bs = one_record (at_most n) st bs
 
-unfoldable pub scan : Stand → List ℕ → Reading
+unfoldable pub scan : Cursor → List ℕ → Reading
 scan st bs = at_most (suc (length bs)) st bs
 
 abbrev pub graph_in : Reading → Result (Graph × ℕ) FileFault
@@ -174,4 +174,4 @@ graph_in (Err e) = Err e
 
 -- the graph of a file, and how many of its bytes are read
 abbrev pub first_reading : List ℕ → Result (Graph × ℕ) FileFault
-first_reading file = cond (nat_lt most_bytes (length file)) (Err Size) (graph_in (scan begin file))
+first_reading file = cond (nat_lt max_bytes (length file)) (Err Size) (graph_in (scan begin file))

@@ -6,7 +6,8 @@ use Rattle.records.specs.declared.faults.RecordFault.{RecordFault}
 use Rattle.records.specs.declared.faults.RecordFault.TheVariants.{Cut, Stray, Many, Ragged, Mark, Text, Twice, Unknown}
 use Rattle.graph.specs.declared.faults.FileFault.{FileFault}
 use Rattle.graph.specs.declared.faults.FileFault.TheVariants.{Record, Size, Rows, Memory}
-use Rattle.graph.specs.declared.refusals.Refusal.{Refusal}
+use Rattle.refusals.specs.declared.Refusal.{Refusal}
+use Rattle.refusals.specs.Bytes.{about_no_record}
 
 -- the place in a string
 abbrev pub prefix_of : StringFault → ℕ
@@ -44,12 +45,9 @@ prefix_in (Twice f) = 0
 prefix_in (Unknown f) = 0
 prefix_in Many = 0
 
--- about no record
-abbrev pub of_file : ℕ → Refusal
-of_file n = record { number = n; «record» = 0; start = 0; field = 0; prefix = 0 }
-
+-- the refusal of each fault
 abbrev pub refusal_of : FileFault → Refusal
-refusal_of (Record x) = record { number = number_of x.fault; «record» = x.number; start = x.start; field = field_of x.fault; prefix = prefix_in x.fault }
-refusal_of Size = of_file 8
-refusal_of Rows = of_file 8
-refusal_of Memory = of_file 9
+refusal_of (Record x) = record { number = number_of x.fault; record_number = x.number; start = x.start; field = field_of x.fault; prefix = prefix_in x.fault }
+refusal_of Size = about_no_record 8
+refusal_of Rows = about_no_record 8
+refusal_of Memory = about_no_record 9

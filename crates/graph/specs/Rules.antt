@@ -3,19 +3,19 @@ use Rattle.std.specs.Prelude.{ℕ, suc, ◌+◌, Bool, true, false, cond, ◌&&�
 use Rattle.std.specs.List.{flat_map}
 use Rattle.std.specs.Str.{bytes_eq}
 use Rattle.text.specs.Forms.{Form, plain, switch, strong, weak}
-use Rattle.records.specs.declared.lanes.Lane.{Lane}
+use Rattle.lanes.specs.declared.lane_numbers.Lane.{Lane}
 use Rattle.records.specs.Graphs.{Dependency, Feature, Package, Graph}
-use Rattle.records.specs.Encoding.{bit}
-use Rattle.records.specs.Lanes.{lanes, lane_number, lane_at}
+use Rattle.lanes.specs.Lanes.{bit}
+use Rattle.lanes.specs.Lanes.{lanes, lane_number, lane_at}
 use Rattle.graph.specs.declared.rows.Row.{Row}
 use Rattle.graph.specs.Law.{dependencies_in, features_in, dependency_count, feature_count}
 use Rattle.graph.specs.Places.{Item, unit, dep, feat, dependencies_of, features_of, proc_of, number}
 
--- with its premises active, `from` and `mate` if there is one, a rule makes `to` active; it is of a lane, or about
+-- with its premises active, `from` and `with` if there is one, a rule makes `to` active; it is of a lane, or about
 -- no dependency, and with `cross` its conclusion is on the side where the lane leads
 pub record Rule : Type 0 where
   pub from : Item
-  pub mate : Option Item
+  pub with : Option Item
   pub to : Item
   pub lane : Option Lane
   pub cross : Bool
@@ -51,49 +51,49 @@ unless b a = cond b [] (a ∷ [])
 
 -- dependency k of package p turns on the feature of a name of its end
 abbrev pub ask_rule : Graph → ℕ → ℕ → Dependency → List ℕ → List Rule
-ask_rule g p k d n = when_some (place_of (features_of g d.end) n) (λ j. record { from = dep p k; mate = None; to = feat d.end j; lane = Some (lane_of g d); cross = true })
+ask_rule g p k d n = when_some (place_of (features_of g d.end) n) (λ j. record { from = dep p k; with = None; to = feat d.end j; lane = Some (lane_of g d); cross = true })
 
 -- a dependency: from its owner's unit unless it is optional; to its end's unit, to the end's default if wanted and
 -- there, to each ask
 abbrev pub dependency_rules : Graph → ℕ → ℕ → Dependency → List Rule
 dependency_rules g p k d =
-    unless d.optional (record { from = unit p; mate = None; to = dep p k; lane = Some (lane_of g d); cross = false })
-    ++ (record { from = dep p k; mate = None; to = unit d.end; lane = Some (lane_of g d); cross = true } ∷ []
+    unless d.optional (record { from = unit p; with = None; to = dep p k; lane = Some (lane_of g d); cross = false })
+    ++ (record { from = dep p k; with = None; to = unit d.end; lane = Some (lane_of g d); cross = true } ∷ []
     ++ (cond d.defaults (ask_rule g p k d (codes "default")) []
     ++ flat_map (ask_rule g p k d) d.asks))
 
 -- feature j turns on the optional dependency k
 abbrev pub switch_rule : Graph → ℕ → ℕ → ℕ → Dependency → List Rule
-switch_rule g p j k d = when d.optional (record { from = feat p j; mate = None; to = dep p k; lane = Some (lane_of g d); cross = false })
+switch_rule g p j k d = when d.optional (record { from = feat p j; with = None; to = dep p k; lane = Some (lane_of g d); cross = false })
 
 -- feature j, with dependency k, turns on the feature of a name of its end
 abbrev pub weak_rule : Graph → ℕ → ℕ → List ℕ → ℕ → Dependency → List Rule
-weak_rule g p j n k d = when_some (place_of (features_of g d.end) n) (λ i. record { from = feat p j; mate = Some (dep p k); to = feat d.end i; lane = Some (lane_of g d); cross = true })
+weak_rule g p j n k d = when_some (place_of (features_of g d.end) n) (λ i. record { from = feat p j; with = Some (dep p k); to = feat d.end i; lane = Some (lane_of g d); cross = true })
 
 -- for each dependency of a name
-abbrev pub named : List ℕ → (ℕ → Dependency → List Rule) → ℕ → Dependency → List Rule
-named n f k d = cond (bytes_eq d.name n) (f k d) []
+abbrev pub if_named : List ℕ → (ℕ → Dependency → List Rule) → ℕ → Dependency → List Rule
+if_named n f k d = cond (bytes_eq d.name n) (f k d) []
 
 -- a value of feature j of package p
 abbrev pub value_rules : Graph → ℕ → ℕ → Form (List ℕ) → List Rule
-value_rules g p j (plain n) = when_some (place_of (features_of g p) n) (λ i. record { from = feat p j; mate = None; to = feat p i; lane = None; cross = false })
-value_rules g p j (switch n) = each (named n (switch_rule g p j)) 0 (dependencies_of g p)
-value_rules g p j (weak n x) = each (named n (weak_rule g p j x)) 0 (dependencies_of g p)
-value_rules g p j (strong n x) = each (named n (λ k d. switch_rule g p j k d ++ weak_rule g p j x k d)) 0 (dependencies_of g p)
+value_rules g p j (plain n) = when_some (place_of (features_of g p) n) (λ i. record { from = feat p j; with = None; to = feat p i; lane = None; cross = false })
+value_rules g p j (switch n) = each (if_named n (switch_rule g p j)) 0 (dependencies_of g p)
+value_rules g p j (weak n x) = each (if_named n (weak_rule g p j x)) 0 (dependencies_of g p)
+value_rules g p j (strong n x) = each (if_named n (λ k d. switch_rule g p j k d ++ weak_rule g p j x k d)) 0 (dependencies_of g p)
 
 abbrev pub feature_rules : Graph → ℕ → ℕ → Feature → List Rule
 feature_rules g p j f = flat_map (value_rules g p j) f.values
 
 -- package by package, its dependencies first, then its features
 abbrev pub package_rules : Graph → ℕ → Package → List Rule
-package_rules g p a = each (dependency_rules g p) 0 (dependencies_in a.parts) ++ each (feature_rules g p) 0 (features_in a.parts)
+package_rules g p a = each (dependency_rules g p) 0 (dependencies_in a.declarations) ++ each (feature_rules g p) 0 (features_in a.declarations)
 
 abbrev pub rules : Graph → List Rule
 rules g = each (package_rules g) 0 g
 
 -- rows are rules with the items by number
 abbrev pub row_of : Graph → Rule → Row
-row_of g ρ = record { from = number g ρ.from; mate = option_map (number g) ρ.mate; to = number g ρ.to; lane = ρ.lane; cross = ρ.cross }
+row_of g ρ = record { from = number g ρ.from; with = option_map (number g) ρ.with; to = number g ρ.to; lane = ρ.lane; cross = ρ.cross }
 
 abbrev pub rows : Graph → List Row
 rows g = map (row_of g) (rules g)
@@ -102,9 +102,9 @@ rows g = map (row_of g) (rules g)
 abbrev pub none : ℕ
 none = 4294967295
 
-abbrev pub mate_word : Option ℕ → ℕ
-mate_word None = none
-mate_word (Some i) = i
+abbrev pub with_word : Option ℕ → ℕ
+with_word None = none
+with_word (Some i) = i
 
 -- the number after those of the lanes means no dependency
 abbrev pub lane_word : Option Lane → ℕ
@@ -112,16 +112,16 @@ lane_word None = lanes
 lane_word (Some l) = lane_number l
 
 abbrev pub row_words : Row → List ℕ
-row_words r = r.from ∷ mate_word r.mate ∷ r.to ∷ lane_word r.lane ∷ bit r.cross ∷ []
+row_words r = r.from ∷ with_word r.with ∷ r.to ∷ lane_word r.lane ∷ bit r.cross ∷ []
 
 -- the item that a word names, if any; and the row of five words: none, if the lane or cross is out of range
-abbrev pub mate_of : ℕ → Option ℕ
-mate_of word = cond (word == none) None (Some word)
+abbrev pub with_of : ℕ → Option ℕ
+with_of word = cond (word == none) None (Some word)
 
 abbrev pub row_from : List ℕ → Option Row
 row_from ws =
     cond (nat_le (slice_index ws 3) lanes && nat_le (slice_index ws 4) 1)
-    (Some (record { from = slice_index ws 0; mate = mate_of (slice_index ws 1); to = slice_index ws 2; lane = lane_at (slice_index ws 3); cross = (slice_index ws 4 == 1) }))
+    (Some (record { from = slice_index ws 0; with = with_of (slice_index ws 1); to = slice_index ws 2; lane = lane_at (slice_index ws 3); cross = (slice_index ws 4 == 1) }))
     None
 
 -- the words of a graph: P, E, F, R, then the rows

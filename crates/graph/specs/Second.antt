@@ -4,41 +4,41 @@ use Rattle.std.specs.Str.{bytes_eq}
 use Rattle.text.specs.Forms.{Form, plain, switch, strong, weak, spell}
 use Rattle.records.specs.declared.faults.RecordFault.{RecordFault}
 use Rattle.records.specs.declared.faults.RecordFault.TheVariants.{Unknown}
-use Rattle.records.specs.Graphs.{Dependency, Feature, Part, dependency, feature, Package, Graph}
+use Rattle.records.specs.Graphs.{Dependency, Feature, Declaration, dependency, feature, Package, Graph}
 use Rattle.records.specs.declared.frames.Kind.TheVariants as kind
-use Rattle.records.specs.Encoding.{kind_number, record_bytes, package_body, part_bytes, header_bytes}
+use Rattle.records.specs.Encoding.{kind_number, record_bytes, package_body, declaration_bytes, header_bytes}
 use Rattle.graph.specs.declared.faults.InRecord.{InRecord}
 use Rattle.graph.specs.Places.{dependencies_of, features_of}
 use Rattle.graph.specs.Limits.{end_place, dependency_name_place, feature_name_place}
 use Rattle.graph.specs.Rules.{place_of}
 
 -- a dependency or feature record: its number, its start in the file, its package, and what it says
-pub record Placed : Type 0 where
+pub record DeclarationPlace : Type 0 where
   pub number : ℕ
   pub start : ℕ
   pub owner : ℕ
-  pub part : Part
+  pub declaration : Declaration
 
-abbrev pub placed_parts : ℕ → ℕ → ℕ → List Part → List Placed
-placed_parts number start owner [] = []
-placed_parts number start owner (p ∷ ps) = record { number = number; start = start; owner = owner; part = p } ∷ placed_parts (number + 1) (start + length (part_bytes p)) owner ps
+abbrev pub places_in_package : ℕ → ℕ → ℕ → List Declaration → List DeclarationPlace
+places_in_package number start owner [] = []
+places_in_package number start owner (p ∷ ps) = record { number = number; start = start; owner = owner; declaration = p } ∷ places_in_package (number + 1) (start + length (declaration_bytes p)) owner ps
 
 abbrev pub package_record : Package → List ℕ
 package_record a = record_bytes (kind_number kind.Package) (package_body a.proc a.name)
 
-abbrev pub parts_length : List Part → ℕ
-parts_length [] = 0
-parts_length (p ∷ ps) = length (part_bytes p) + parts_length ps
+abbrev pub declarations_length : List Declaration → ℕ
+declarations_length [] = 0
+declarations_length (p ∷ ps) = length (declaration_bytes p) + declarations_length ps
 
-abbrev pub placed_from : ℕ → ℕ → ℕ → Graph → List Placed
-placed_from number start owner [] = []
-placed_from number start owner (a ∷ g) =
-    placed_parts (number + 1) (start + length (package_record a)) owner a.parts
-    ++ placed_from ((number + 1) + length a.parts) ((start + length (package_record a)) + parts_length a.parts) (owner + 1) g
+abbrev pub places_from : ℕ → ℕ → ℕ → Graph → List DeclarationPlace
+places_from number start owner [] = []
+places_from number start owner (a ∷ g) =
+    places_in_package (number + 1) (start + length (package_record a)) owner a.declarations
+    ++ places_from ((number + 1) + length a.declarations) ((start + length (package_record a)) + declarations_length a.declarations) (owner + 1) g
 
 -- all of a graph, in file order; the header is record 0
-abbrev pub placed : Graph → List Placed
-placed g = placed_from 1 (length header_bytes) 0 g
+abbrev pub declaration_places : Graph → List DeclarationPlace
+declaration_places g = places_from 1 (length header_bytes) 0 g
 
 -- a feature of this name; a dependency of this name; and of each such dependency the end has the feature
 abbrev pub has_feature : List Feature → List ℕ → Bool
@@ -56,11 +56,11 @@ ends_have g [] n x = true
 ends_have g (d ∷ ds) n x = end_has g n x d && ends_have g ds n x
 
 -- what a feature string of package p names is there
-abbrev pub known : Graph → ℕ → Form (List ℕ) → Bool
-known g p (plain x) = has_feature (features_of g p) x
-known g p (switch n) = has_dependency (dependencies_of g p) n
-known g p (strong n x) = has_dependency (dependencies_of g p) n && ends_have g (dependencies_of g p) n x
-known g p (weak n x) = has_dependency (dependencies_of g p) n && ends_have g (dependencies_of g p) n x
+abbrev pub is_known : Graph → ℕ → Form (List ℕ) → Bool
+is_known g p (plain x) = has_feature (features_of g p) x
+is_known g p (switch n) = has_dependency (dependencies_of g p) n
+is_known g p (strong n x) = has_dependency (dependencies_of g p) n && ends_have g (dependencies_of g p) n x
+is_known g p (weak n x) = has_dependency (dependencies_of g p) n && ends_have g (dependencies_of g p) n x
 
 -- all of some strings, which begin at a place of their record, are known; each stands behind its length byte
 abbrev pub all_known : {A : Type 0} → (A → Bool) → (A → ℕ) → ℕ → List A → Result (Unit {0}) RecordFault
@@ -68,30 +68,30 @@ all_known test size at [] = Ok tt
 all_known test size at (x ∷ xs) = cond (test x) (all_known test size ((at + 1) + size x) xs) (Err (Unknown (at + 1)))
 
 -- what a dependency or feature of package p names is there; its asks or values begin after its name and the count
-abbrev pub names_known : Graph → ℕ → Part → Result (Unit {0}) RecordFault
+abbrev pub names_known : Graph → ℕ → Declaration → Result (Unit {0}) RecordFault
 names_known g p (dependency d) = all_known (has_feature (features_of g d.end)) length ((dependency_name_place + length d.name) + 1) d.asks
-names_known g p (feature f) = all_known (known g p) (λ v. length (spell v)) ((feature_name_place + length f.name) + 1) f.values
+names_known g p (feature f) = all_known (is_known g p) (λ v. length (spell v)) ((feature_name_place + length f.name) + 1) f.values
 
 -- the end of a dependency is a package
-abbrev pub end_known : Graph → Part → Result (Unit {0}) RecordFault
+abbrev pub end_known : Graph → Declaration → Result (Unit {0}) RecordFault
 end_known g (dependency d) = cond (nat_lt d.end (length g)) (Ok tt) (Err (Unknown end_place))
 end_known g (feature f) = Ok tt
 
 -- a record's fault, with the record's number and start, comes before those of the records after it
-abbrev pub or_after : Placed → Result (Unit {0}) RecordFault → Result (Unit {0}) InRecord → Result (Unit {0}) InRecord
+abbrev pub or_after : DeclarationPlace → Result (Unit {0}) RecordFault → Result (Unit {0}) InRecord → Result (Unit {0}) InRecord
 or_after x (Ok u) r = r
 or_after x (Err e) r = Err (record { number = x.number; start = x.start; fault = e })
 
 -- the first fault of some records
-abbrev pub checked : (Placed → Result (Unit {0}) RecordFault) → List Placed → Result (Unit {0}) InRecord
-checked test [] = Ok tt
-checked test (x ∷ xs) = or_after x (test x) (checked test xs)
+abbrev pub check_all : (DeclarationPlace → Result (Unit {0}) RecordFault) → List DeclarationPlace → Result (Unit {0}) InRecord
+check_all test [] = Ok tt
+check_all test (x ∷ xs) = or_after x (test x) (check_all test xs)
 
-abbrev pub ends : Graph → List Placed → Result (Unit {0}) InRecord
-ends g = checked (λ x. end_known g x.part)
+abbrev pub ends : Graph → List DeclarationPlace → Result (Unit {0}) InRecord
+ends g = check_all (λ x. end_known g x.declaration)
 
-abbrev pub references : Graph → List Placed → Result (Unit {0}) InRecord
-references g = checked (λ x. names_known g x.owner x.part)
+abbrev pub references : Graph → List DeclarationPlace → Result (Unit {0}) InRecord
+references g = check_all (λ x. names_known g x.owner x.declaration)
 
 -- one check, and then another
 abbrev pub then_check : Result (Unit {0}) InRecord → Result (Unit {0}) InRecord → Result (Unit {0}) InRecord
@@ -100,4 +100,4 @@ then_check (Err e) r = Err e
 
 -- all ends, then all asks and feature strings
 abbrev pub second_reading : Graph → Result (Unit {0}) InRecord
-second_reading g = then_check (ends g (placed g)) (references g (placed g))
+second_reading g = then_check (ends g (declaration_places g)) (references g (declaration_places g))

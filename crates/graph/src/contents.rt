@@ -1,6 +1,5 @@
 // What a record says, and what was read before it.
-use records::bodies::{Dependency, Feature, Package};
-use records::frames::Frame;
+use records::{Dependency, Feature, Frame, Package};
 
 // Where the name of a feature begins in its record: after length, kind and the name's own length.
 pub(crate) const FEATURE_NAME: usize = 7;
@@ -16,14 +15,14 @@ pub(crate) enum Content<'a> {
 
 // A dependency or feature record, which belongs to a package.
 #[derive(Clone, Copy)]
-pub(crate) enum Owned<'a> {
+pub(crate) enum DeclarationRecord<'a> {
     Dependency(Dependency<'a>),
     Feature(Feature<'a>),
 }
 
 // A record that was found: what it says, and its frame.
 #[derive(Clone, Copy)]
-pub(crate) struct Found<'a> {
+pub(crate) struct ReadRecord<'a> {
     pub content: Content<'a>,
     pub frame: Frame<'a>,
 }
@@ -31,7 +30,7 @@ pub(crate) struct Found<'a> {
 // Where a reading stands: the number and the start of the next record, and how many packages and
 // dependencies are before it. The features before it are in the index, so that `Counts` would say too much.
 #[derive(Clone, Copy)]
-pub(crate) struct Stand {
+pub(crate) struct Cursor {
     pub number: usize,
     pub start: usize,
     pub packages: u32,

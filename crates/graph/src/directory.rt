@@ -3,62 +3,62 @@ ghost use Rattle.std.specs.Prelude.{◌≡◌, ◌+◌, ◌≤◌, List, length,
 ghost use Rattle.records.specs.declared.frames.Kind.TheVariants.{End};
 ghost use Rattle.records.specs.Frames.{kind_at, frame as frame_view, frame_of};
 ghost use Rattle.records.specs.Encoding.{Bytes};
-ghost use Rattle.records.specs.Graphs.{Graph, Part};
+ghost use Rattle.records.specs.Graphs.{Graph, Declaration};
 ghost use Rattle.graph.specs.Depending.{key_if, last_keys};
 ghost use Rattle.graph.specs.Directory.{Places, Accepted, Tells, ReadAs};
 ghost use Rattle.graph.specs.Buckets.{key_view};
-ghost use Rattle.graph.specs.Limits.{most_dependencies, most_parts};
-ghost use Rattle.graph.specs.Parts.{part_in};
+ghost use Rattle.graph.specs.Limits.{max_dependencies, max_declarations};
+ghost use Rattle.graph.specs.Declarations.{declaration_in};
 ghost use Rattle.graph.specs.Rules.{when_some};
-ghost use Rattle.graph.specs.Second.{Placed};
+ghost use Rattle.graph.specs.Second.{DeclarationPlace};
 ghost use Rattle.graph.specs.Views.{keys};
-ghost use Rattle.graph.specs.Filling.{marked, tables_of, Midway};
+ghost use Rattle.graph.specs.Filling.{is_marked, tables_of, Midway};
 
-use crate::contents::{Counts, Owned};
+use crate::contents::{Counts, DeclarationRecord};
+use crate::declarations::declaration_at;
 use crate::faults::FileFault;
 use crate::index::{Index, Key, MAX_FEATURES};
-use crate::parts::part_at;
 use crate::reading::first_reading;
 use crate::tables::{
-    Directory, MAX_DEPENDENCIES, MAX_PACKAGES, MAX_PARTS, PackageEntry, PartEntry,
+    DeclarationEntry, Directory, MAX_DECLARATIONS, MAX_DEPENDENCIES, MAX_PACKAGES, PackageEntry,
 };
-use records::frames::{Frame, Kind, first_frame};
+use records::{Frame, Kind, first_frame};
 
 // The records after the header begin here.
 const HEADER_BYTES: usize = 8;
 
 // Whether the first byte is 1, as the proc mark of a package is.
 fn is_marked(body: &[u8]) -> bool
-    ensures { result ≡ marked body.now }
+    ensures { result ≡ is_marked body.now }
 {
     matches!(body, [1, ..])
 }
 
 // The package and name of a record, if it is a dependency.
-fn key_of<'a>(file: &'a [u8], entry: PartEntry) -> Option<Key<'a>>
-    ensures { (x : Part) → part_in (drop entry.start file.now) ≡ Some x → when_some result key_view ≡ key_if entry.owner x }
+fn key_of<'a>(file: &'a [u8], entry: DeclarationEntry) -> Option<Key<'a>>
+    ensures { (x : Declaration) → declaration_in (drop entry.start file.now) ≡ Some x → when_some result key_view ≡ key_if entry.owner x }
 {
-    match part_at(file, entry.start as usize)? {
-        Owned::Dependency(d) => Some(Key {
+    match declaration_at(file, entry.start as usize)? {
+        DeclarationRecord::Dependency(d) => Some(Key {
             owner: entry.owner,
             name: d.name.bytes,
         }),
-        Owned::Feature(_) => None,
+        DeclarationRecord::Feature(_) => None,
     }
 }
 
 // Fills the index of dependencies from so many records of the file, from the last one to the first.
 fn name_dependencies<'a>(
     named: &mut Index<'a>,
-    parts: &[PartEntry; MAX_PARTS],
+    declarations: &[DeclarationEntry; MAX_DECLARATIONS],
     count: usize,
     file: &'a [u8],
 )
     requires new { named.old.lists.count ≡ 0 }
-    requires told { (xs : List Placed) × Places file.now parts.now count xs × (count ≤ most_parts) × (length (last_keys xs) ≤ most_dependencies) }
-    ensures { (xs : List Placed) → Places file.now parts.now count xs → keys named.new ≡ last_keys xs }
+    requires told { (xs : List DeclarationPlace) × Places file.now declarations.now count xs × (count ≤ max_declarations) × (length (last_keys xs) ≤ max_dependencies) }
+    ensures { (xs : List DeclarationPlace) → Places file.now declarations.now count xs → keys named.new ≡ last_keys xs }
 {
-    for entry in parts[..count].iter().rev() {
+    for entry in declarations[..count].iter().rev() {
         if let Some(key) = key_of(file, *entry) {
             named.add(key);
         }
@@ -75,7 +75,7 @@ impl<'a> Directory<'a> {
             dependency: 0,
             feature: 0,
         };
-        let part = PartEntry { start: 0, owner: 0 };
+        let declaration = DeclarationEntry { start: 0, owner: 0 };
         let counts = Counts {
             read: 0,
             packages: 0,
@@ -89,7 +89,7 @@ impl<'a> Directory<'a> {
             packages: [package; MAX_PACKAGES],
             dependencies: [0; MAX_DEPENDENCIES],
             features: [0; MAX_FEATURES],
-            parts: [part; MAX_PARTS],
+            declarations: [declaration; MAX_DECLARATIONS],
         }
     }
 
@@ -105,7 +105,7 @@ impl<'a> Directory<'a> {
     {
         let mut after = so_far;
         after.read = so_far.read + (frame.body.len() + 6);
-        let part = PartEntry {
+        let declaration = DeclarationEntry {
             // a file is shorter, so `try_from` would only add a fault that never comes
             start: so_far.read as u32,
             owner: so_far.packages.saturating_sub(1),
@@ -121,13 +121,13 @@ impl<'a> Directory<'a> {
                 after.packages = so_far.packages + 1;
             }
             Kind::Dependency => {
-                self.dependencies[so_far.dependencies as usize] = part.start;
-                self.parts[j] = part;
+                self.dependencies[so_far.dependencies as usize] = declaration.start;
+                self.declarations[j] = declaration;
                 after.dependencies = so_far.dependencies + 1;
             }
             Kind::Feature => {
-                self.features[so_far.features as usize] = part.start;
-                self.parts[j] = part;
+                self.features[so_far.features as usize] = declaration.start;
+                self.declarations[j] = declaration;
                 after.features = so_far.features + 1;
             }
             Kind::Header | Kind::End => {}
@@ -176,7 +176,7 @@ impl<'a> Directory<'a> {
         let count = self.counts.dependencies + self.counts.features;
         name_dependencies(
             &mut self.named,
-            &self.parts,
+            &self.declarations,
             count as usize,
             self.index.file,
         );

@@ -2,7 +2,7 @@
 ghost use Rattle.std.specs.Prelude.{◌≡◌};
 ghost use Rattle.graph.specs.declared.faults.FileFault.TheVariants.{Record};
 
-use records::faults::RecordFault;
+use records::RecordFault;
 
 // The fault of a record, with the record's number and its start in the file.
 // One generic struct for this and `InField` would name neither place.

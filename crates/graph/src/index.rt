@@ -1,7 +1,7 @@
 // An index of the features, or of the dependencies, of a graph file, by package and name.
 ghost use Rattle.std.specs.Prelude.{◌≤◌};
 ghost use Rattle.graph.specs.Buckets.{Linked};
-ghost use Rattle.graph.specs.Limits.{most_features};
+ghost use Rattle.graph.specs.Limits.{max_features};
 ghost use Rattle.std.proofs.Props.{props};
 
 // The most features of a graph.
@@ -22,7 +22,7 @@ pub struct Key<'a> {
 
 // A feature or dependency, and the number of the entry before it in its bucket's list.
 #[derive(Clone, Copy)]
-pub struct Entry<'a> {
+pub struct IndexEntry<'a> {
     pub key: Key<'a>,
     pub next: Option<u16>,
 }
@@ -34,7 +34,7 @@ pub struct Entry<'a> {
 #[derive(Drop)]
 pub struct Lists<'a> {
     pub count: u16,
-    pub entries: [Entry<'a>; MAX_FEATURES],
+    pub entries: [IndexEntry<'a>; MAX_FEATURES],
     pub heads: [Option<u16>; BUCKETS],
 }
 
@@ -43,6 +43,6 @@ pub struct Lists<'a> {
 pub struct Index<'a> {
     pub file: &'a [u8],
     pub lists: Lists<'a>,
-    ghost few: { lists.count ≤ most_features },
+    ghost few: { lists.count ≤ max_features },
     ghost linked: { Linked lists.entries lists.heads lists.count } by { Prim.hlevel props },
 }

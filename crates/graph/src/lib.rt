@@ -1,26 +1,32 @@
-// Graph files: opening one, and its rule rows.
+//! Graph files: opening one, and its rule rows.
 
 #![tactic(auto)]
 
 mod contents;
+mod declarations;
 mod directory;
-pub mod examples;
-pub mod faults;
+mod examples;
+mod faults;
 mod filled;
 mod index;
-pub mod limits;
+mod limits;
 mod lookup;
 mod named;
 mod namesakes;
-pub mod opening;
-mod parts;
+mod opening;
 mod places;
 mod reading;
 mod references;
-pub mod refusals;
-pub mod rows;
+mod refusal_numbers;
+mod row_writers;
+mod rows;
 mod rules;
 mod second;
-mod sheets;
 mod sources;
 mod tables;
+
+pub use examples::{EXAMPLE, open_example};
+pub use faults::{FileFault, InRecord};
+pub use limits::{MAX_BYTES, MAX_DEPENDENCIES, MAX_FEATURES, MAX_PACKAGES, MAX_RULE_ROWS};
+pub use opening::open_graph;
+pub use rows::{HEAD_WORDS, NoRow, Opened, ROW_WIDTH, Row, with_of};

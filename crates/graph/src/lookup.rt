@@ -2,9 +2,9 @@
 ghost use Rattle.std.specs.Prelude.{◌≡◌, ℕ, ◌+◌, ◌<◌, [], ◌∷◌, ◌++◌, length, nat_le};
 ghost use Rattle.graph.specs.Keys.{is_key, has_key};
 ghost use Rattle.graph.specs.Buckets.{buckets, key_of, key_view, keys_of, entry_at, bucket_of, past, Linked, newest_of, IsEntry, InBucket};
-ghost use Rattle.graph.specs.Limits.{most_features};
+ghost use Rattle.graph.specs.Limits.{max_features};
 
-use crate::index::{BUCKETS, Entry, FACTOR, Index, Key, Lists, MAX_FEATURES};
+use crate::index::{BUCKETS, FACTOR, Index, IndexEntry, Key, Lists, MAX_FEATURES};
 
 // The bucket of a key.
 fn bucket(key: Key<'_>) -> usize
@@ -22,7 +22,7 @@ fn bucket(key: Key<'_>) -> usize
 impl<'a> Lists<'a> {
     // One entry more.
     fn add(&mut self, key: Key<'a>)
-        requires room { self.old.count < most_features }
+        requires room { self.old.count < max_features }
         requires linked { Linked self.old.entries self.old.heads self.old.count }
         ensures count { self.new.count ≡ self.old.count + 1 }
         ensures keys { keys_of self.new.entries self.new.count ≡ keys_of self.old.entries self.old.count ++ key_view key.entry ∷ [] }
@@ -30,7 +30,7 @@ impl<'a> Lists<'a> {
     {
         let h = bucket(key);
         let k = self.count;
-        self.entries[k as usize] = Entry {
+        self.entries[k as usize] = IndexEntry {
             key,
             next: self.heads[h],
         };
@@ -48,7 +48,7 @@ impl<'a> Index<'a> {
             owner: 0,
             name: &[],
         };
-        let blank = Entry { key, next: None };
+        let blank = IndexEntry { key, next: None };
         let lists = Lists {
             count: 0,
             entries: [blank; MAX_FEATURES],
@@ -104,14 +104,14 @@ impl<'a> Index<'a> {
 
     // Whether there is no room for an entry more.
     pub(crate) fn is_full(&self) -> bool
-        ensures { result ≡ nat_le most_features (length (keys_of self.now.lists.entries self.now.lists.count)) }
+        ensures { result ≡ nat_le max_features (length (keys_of self.now.lists.entries self.now.lists.count)) }
     {
         usize::from(self.lists.count) >= MAX_FEATURES
     }
 
     // One entry more.
     pub(crate) fn add(&mut self, key: Key<'a>)
-        requires room { self.old.lists.count < most_features }
+        requires room { self.old.lists.count < max_features }
         ensures file { self.new.file.now ≡ self.old.file.now }
         ensures count { self.new.lists.count ≡ self.old.lists.count + 1 }
         ensures keys { keys_of self.new.lists.entries self.new.lists.count ≡ keys_of self.old.lists.entries self.old.lists.count ++ key_view key.entry ∷ [] }

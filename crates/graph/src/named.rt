@@ -2,10 +2,10 @@
 ghost use Rattle.std.specs.Prelude.{◌≡◌, ℕ, ◌+◌, ◌<◌, length, slice_index_or, Some, option_map};
 ghost use Rattle.graph.specs.Depending.{depending};
 ghost use Rattle.graph.specs.Directory.{no_depending};
-ghost use Rattle.graph.specs.Laying.{its};
+ghost use Rattle.graph.specs.RowLists.{its};
 ghost use Rattle.graph.specs.Namesakes.{namesakes, left, namesake_view};
 
-use crate::contents::Owned;
+use crate::contents::DeclarationRecord;
 use crate::filled::Filled;
 use crate::index::Key;
 use crate::namesakes::{Namesake, Namesakes};
@@ -17,12 +17,12 @@ impl<'a> Filled<'a> {
         ensures { option_map namesake_view result ≡ Some (length (its self.now) + k, (slice_index_or (depending 0 (its self.now)) k no_depending).dependency) }
     {
         let start = self.directory.dependencies[k as usize];
-        match self.part_at(start)? {
-            Owned::Dependency(dependency) => Some(Namesake {
+        match self.declaration_at(start)? {
+            DeclarationRecord::Dependency(dependency) => Some(Namesake {
                 item: self.directory.counts.packages + k,
                 dependency,
             }),
-            Owned::Feature(_) => None,
+            DeclarationRecord::Feature(_) => None,
         }
     }
 

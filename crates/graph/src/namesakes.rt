@@ -4,7 +4,7 @@ ghost use Rattle.graph.specs.Buckets.{IsEntry};
 
 use crate::filled::Filled;
 use crate::index::Key;
-use records::bodies::Dependency;
+use records::Dependency;
 
 // A dependency, and its local number.
 #[derive(Clone, Copy)]

@@ -5,37 +5,37 @@ ghost use Rattle.records.specs.Graphs.{Graph};
 ghost use Rattle.graph.specs.declared.faults.FileFault.{FileFault};
 ghost use Rattle.graph.specs.declared.rows.Opened.{Opened};
 ghost use Rattle.graph.specs.Law.{Says};
-ghost use Rattle.graph.specs.Limits.{most_rule_rows, head_words, row_width};
-ghost use Rattle.graph.specs.Laying.{its};
-ghost use Rattle.graph.specs.Opening.{over, opened_as, laid_for, open_graph, leaving, with_words};
+ghost use Rattle.graph.specs.Limits.{max_rule_rows, head_words, row_width};
+ghost use Rattle.graph.specs.RowLists.{its};
+ghost use Rattle.graph.specs.Opening.{over, opened_as, words_for, open_graph, leaving, with_words};
 ghost use Rattle.graph.specs.OpeningLaw.{OpeningLaw, RulesLaw};
 ghost use Rattle.graph.specs.Rules.{row_words, rows, graph_words};
 
 use crate::faults::FileFault;
 use crate::filled::Filled;
-use crate::rows::{HEAD, MAX_ROWS, Opened, WIDTH};
-use crate::sheets::Sheet;
+use crate::row_writers::RowWriter;
+use crate::rows::{HEAD_WORDS, MAX_RULE_ROWS, Opened, ROW_WIDTH};
 use crate::tables::Directory;
 
 impl<'a> Filled<'a> {
     // The rows of the graph are laid into the words behind the first four, as far as there is room. The answer is how
     // many rows there are, up to one past the limit. With no words it counts, by the same walk, so that the two agree.
-    fn lay_all(&self, words: &mut [u32]) -> u32
-        ensures count { result ≡ min (length (rows (its self.now))) (most_rule_rows + 1) }
-        ensures words { length (rows (its self.now)) ≤ most_rule_rows → head_words + row_width * length (rows (its self.now)) ≤ length words.old → words.new ≡ take head_words words.old ++ (flat_map row_words (rows (its self.now)) ++ drop (head_words + row_width * length (rows (its self.now))) words.old) }
+    fn write_all(&self, words: &mut [u32]) -> u32
+        ensures count { result ≡ min (length (rows (its self.now))) (max_rule_rows + 1) }
+        ensures words { length (rows (its self.now)) ≤ max_rule_rows → head_words + row_width * length (rows (its self.now)) ≤ length words.old → words.new ≡ take head_words words.old ++ (flat_map row_words (rows (its self.now)) ++ drop (head_words + row_width * length (rows (its self.now))) words.old) }
     {
-        let mut sheet = Sheet { words, count: 0 };
-        self.lay_rows(&mut sheet);
-        sheet.count
+        let mut writer = RowWriter { words, count: 0 };
+        self.write_package_rows(&mut writer);
+        writer.count
     }
 
     // The words of the graph: how many packages, dependencies, features and rows there are, then the rows.
     fn write(&self, words: &mut [u32], count: u32)
-        requires all { (count ≡ length (rows (its self.now))) × (count ≤ most_rule_rows) }
+        requires all { (count ≡ length (rows (its self.now))) × (count ≤ max_rule_rows) }
         requires room { head_words + row_width * count ≤ length words.old }
         ensures { words.new ≡ over (graph_words (its self.now)) words.old }
     {
-        self.lay_all(words);
+        self.write_all(words);
         let counts = self.directory.counts;
         words[0] = counts.packages;
         words[1] = counts.dependencies;
@@ -44,14 +44,14 @@ impl<'a> Filled<'a> {
     }
 
     // The words of the graph, if its rows are few enough and there is room for them.
-    fn lay_words(&self, words: &mut [u32]) -> Result<Opened, FileFault>
-        ensures { ◌≡◌ {A = Result Opened FileFault × List ℕ} (result, words.new) (leaving words.old (laid_for (its self.now) self.now.directory.now.counts.read words.old)) }
+    fn write_words(&self, words: &mut [u32]) -> Result<Opened, FileFault>
+        ensures { ◌≡◌ {A = Result Opened FileFault × List ℕ} (result, words.new) (leaving words.old (words_for (its self.now) self.now.directory.now.counts.read words.old)) }
     {
-        let rows = self.lay_all(&mut []);
-        if rows > MAX_ROWS {
+        let rows = self.write_all(&mut []);
+        if rows > MAX_RULE_ROWS {
             return Err(FileFault::Rows);
         }
-        if words.len() < HEAD + WIDTH * rows as usize {
+        if words.len() < HEAD_WORDS + ROW_WIDTH * rows as usize {
             return Err(FileFault::Memory);
         }
         self.write(words, rows);
@@ -78,5 +78,5 @@ pub fn open_graph(file: &[u8], words: &mut [u32]) -> Result<Opened, FileFault>
         directory: &directory,
     };
     filled.second_reading()?;
-    filled.lay_words(words)
+    filled.write_words(words)
 }

@@ -1,24 +1,24 @@
 // Where the records of a graph stand, and what they are.
 ghost use Rattle.std.specs.Prelude.{◌≡◌, ℕ, ◌+◌, ◌-◌, ◌<◌, ◌≤◌, length, take, drop, slice_index, slice_index_or, Some, option_map};
-ghost use Rattle.records.specs.Graphs.{Part, dependency, feature};
-ghost use Rattle.graph.specs.Directory.{no_part, no_placed};
-ghost use Rattle.graph.specs.Limits.{most_local_items};
-ghost use Rattle.graph.specs.Laying.{its, ReadsAs, PlacedAs};
+ghost use Rattle.records.specs.Graphs.{Declaration, dependency, feature};
+ghost use Rattle.graph.specs.Directory.{no_declaration_entry, no_place};
+ghost use Rattle.graph.specs.Limits.{max_local_items};
+ghost use Rattle.graph.specs.RowLists.{its, ReadsAs, PlacedAs};
 ghost use Rattle.graph.specs.Places.{dep, feat, dependencies_of, features_of, proc_of, number, dependencies_before, features_before, no_dependency, no_feature};
 ghost use Rattle.graph.specs.Rules.{place_of};
-ghost use Rattle.graph.specs.Second.{has_feature, placed};
-ghost use Rattle.graph.specs.Views.{owned_view};
+ghost use Rattle.graph.specs.Second.{has_feature, declaration_places};
+ghost use Rattle.graph.specs.Views.{declaration_view};
 
-use crate::contents::Owned;
+use crate::contents::DeclarationRecord;
+use crate::declarations::declaration_at;
 use crate::filled::Filled;
 use crate::index::Key;
-use crate::parts::part_at;
-use crate::tables::{PackageEntry, PartEntry, Starts};
+use crate::tables::{DeclarationEntry, PackageEntry, Starts};
 
 // The records of a table from one number to another.
 fn between<'a>(first: u32, table: &'a [u32], from: u32, to: u32) -> Starts<'a>
     requires within { (from ≤ to) × (to ≤ length table.now) }
-    requires few { first + (to - from) ≤ most_local_items }
+    requires few { first + (to - from) ≤ max_local_items }
     ensures first { result.first ≡ first }
     ensures starts { result.starts.now ≡ take (to - from) (drop from table.now) }
 {
@@ -71,21 +71,21 @@ impl<'a> Filled<'a> {
     }
 
     // All dependencies and features, in file order.
-    pub(crate) fn parts(&self) -> &'a [PartEntry]
-        ensures count { length result.now ≡ length (placed (its self.now)) }
-        ensures parts { (j : ℕ) → j < length (placed (its self.now)) → PlacedAs self.now (slice_index_or result.now j no_part) (slice_index_or (placed (its self.now)) j no_placed) }
+    pub(crate) fn declarations(&self) -> &'a [DeclarationEntry]
+        ensures count { length result.now ≡ length (declaration_places (its self.now)) }
+        ensures declarations { (j : ℕ) → j < length (declaration_places (its self.now)) → PlacedAs self.now (slice_index_or result.now j no_declaration_entry) (slice_index_or (declaration_places (its self.now)) j no_place) }
     {
         let count = self.directory.counts.dependencies + self.directory.counts.features;
-        let table = &self.directory.parts[..];
+        let table = &self.directory.declarations[..];
         &table[..count as usize]
     }
 
     // The dependency or feature record at a place.
-    pub(crate) fn part_at(&self, start: u32) -> Option<Owned<'a>>
-        ensures { (p : Part) → ReadsAs self.now start p → option_map owned_view result ≡ Some p }
+    pub(crate) fn declaration_at(&self, start: u32) -> Option<DeclarationRecord<'a>>
+        ensures { (p : Declaration) → ReadsAs self.now start p → option_map declaration_view result ≡ Some p }
     {
         let directory = self.directory;
-        part_at(directory.index.file, start as usize)
+        declaration_at(directory.index.file, start as usize)
     }
 
     // The local number of the feature of a package and name.

@@ -1,23 +1,20 @@
 // The first reading: each record is well formed, and may stand where it stands.
 ghost use Rattle.std.specs.Prelude.{◌≡◌, ◌+◌, ◌-◌, ◌^◌, ◌<◌, ◌≤◌, length, ok_or};
 ghost use Rattle.records.specs.declared.faults.RecordFault.TheVariants.{Stray};
-ghost use Rattle.text.specs.Views.{mapped};
+ghost use Rattle.text.specs.Views.{map_ok};
 ghost use Rattle.records.specs.Frames.{frame as frame_view};
 ghost use Rattle.records.specs.Fields.{view, outcome_by};
 ghost use Rattle.records.specs.Bodies.{feature_view};
 ghost use Rattle.graph.specs.Reading.{kind_here, feature_field, content_of, record_at, is_end, after};
-ghost use Rattle.graph.specs.Limits.{most_bytes};
+ghost use Rattle.graph.specs.Limits.{max_bytes};
 ghost use Rattle.graph.specs.Gathered.{gathered_by, gathered_in, Featured};
-ghost use Rattle.graph.specs.Views.{content_view, found_view, stand_view, keys, Fits, located as located_in};
+ghost use Rattle.graph.specs.Views.{content_view, read_record_view, cursor_view, keys, Fits, locate as locate_in};
 
-use crate::contents::{Content, Counts, Found, Stand};
+use crate::contents::{Content, Counts, Cursor, ReadRecord};
 use crate::faults::{FileFault, InRecord};
 use crate::index::{Index, Key};
 use crate::tables::{MAX_DEPENDENCIES, MAX_PACKAGES};
-use records::bodies::Feature;
-use records::faults::RecordFault;
-use records::frames::{Frame, Kind, first_frame};
-use records::reader::Reader;
+use records::{Feature, Frame, Kind, Reader, RecordFault, first_frame};
 
 // The most bytes of a file.
 pub const MAX_BYTES: usize = 1_048_576;
@@ -61,13 +58,13 @@ fn feature<'a>(
 // What a record says, where it stands.
 fn content<'a>(
     index: &Index<'a>,
-    stand: Stand,
+    cursor: Cursor,
     frame: Frame<'a>,
 ) -> Result<Content<'a>, RecordFault>
     requires small { length frame.body.now + 6 < 2 ^ 63 }
-    ensures { mapped content_view result ≡ content_of (stand_view stand (keys index.now)) (frame_view frame.entry) }
+    ensures { map_ok content_view result ≡ content_of (cursor_view cursor (keys index.now)) (frame_view frame.entry) }
 {
-    let kind = kind_here(stand.number, stand.packages, frame.kind)?;
+    let kind = kind_here(cursor.number, cursor.packages, frame.kind)?;
     let mut body = Reader {
         rest: frame.body,
         at: 6,
@@ -77,15 +74,15 @@ fn content<'a>(
             body.header()?;
             Ok(Content::Header)
         }
-        Kind::Package if stand.packages as usize >= MAX_PACKAGES => Err(RecordFault::Many),
+        Kind::Package if cursor.packages as usize >= MAX_PACKAGES => Err(RecordFault::Many),
         Kind::Package => Ok(Content::Package(body.package()?)),
-        Kind::Dependency if stand.dependencies as usize >= MAX_DEPENDENCIES => Err(
+        Kind::Dependency if cursor.dependencies as usize >= MAX_DEPENDENCIES => Err(
             RecordFault::Many,
         ),
         Kind::Dependency => Ok(Content::Dependency(body.dependency()?)),
         Kind::Feature if index.is_full() => Err(RecordFault::Many),
         Kind::Feature => {
-            let owner = stand.packages.saturating_sub(1);
+            let owner = cursor.packages.saturating_sub(1);
             Ok(Content::Feature(feature(index, owner, &mut body)?))
         }
         Kind::End => {
@@ -96,37 +93,41 @@ fn content<'a>(
 }
 
 // A record's fault, with the record's number and start.
-fn located<T>(stand: Stand, answer: Result<T, RecordFault>) -> Result<T, InRecord>
-    ensures { result ≡ located_in stand answer }
+fn locate<T>(cursor: Cursor, answer: Result<T, RecordFault>) -> Result<T, InRecord>
+    ensures { result ≡ locate_in cursor answer }
 {
     answer.map_err(|fault| InRecord {
-        number: stand.number,
-        start: stand.start,
+        number: cursor.number,
+        start: cursor.start,
         fault,
     })
 }
 
 // The record at the front of the bytes.
-fn read_record<'a>(index: &Index<'a>, stand: Stand, bytes: &'a [u8]) -> Result<Found<'a>, InRecord>
+fn read_record<'a>(
+    index: &Index<'a>,
+    cursor: Cursor,
+    bytes: &'a [u8],
+) -> Result<ReadRecord<'a>, InRecord>
     requires small { length bytes.now < 2 ^ 62 }
-    ensures { mapped found_view result ≡ record_at (stand_view stand (keys index.now)) bytes.now }
+    ensures { map_ok read_record_view result ≡ record_at (cursor_view cursor (keys index.now)) bytes.now }
 {
-    let frame = located(stand, first_frame(bytes))?;
-    let content = located(stand, content(index, stand, frame))?;
-    Ok(Found { content, frame })
+    let frame = locate(cursor, first_frame(bytes))?;
+    let content = locate(cursor, content(index, cursor, frame))?;
+    Ok(ReadRecord { content, frame })
 }
 
 // How the reading stands after a record. A feature goes into the index.
-fn noted<'a>(index: &mut Index<'a>, stand: Stand, found: Found<'a>) -> Stand
+fn cursor_after<'a>(index: &mut Index<'a>, cursor: Cursor, found: ReadRecord<'a>) -> Cursor
     requires fits { Fits index.old.lists.count found.content }
-    requires small { (stand.start + (length found.frame.body.now + 6) ≤ most_bytes) × (stand.number ≤ most_bytes) × (stand.packages ≤ most_bytes) × (stand.dependencies ≤ most_bytes) × (length index.old.file.now ≤ most_bytes) }
-    ensures stand { stand_view result (keys index.new) ≡ after (stand_view stand (keys index.old)) (found_view found.entry) }
+    requires small { (cursor.start + (length found.frame.body.now + 6) ≤ max_bytes) × (cursor.number ≤ max_bytes) × (cursor.packages ≤ max_bytes) × (cursor.dependencies ≤ max_bytes) × (length index.old.file.now ≤ max_bytes) }
+    ensures cursor { cursor_view result (keys index.new) ≡ after (cursor_view cursor (keys index.old)) (read_record_view found.entry) }
     ensures file { index.new.file.now ≡ index.old.file.now }
 {
-    let number = stand.number + 1;
-    let start = stand.start + (found.frame.body.len() + 6);
-    let mut packages = stand.packages;
-    let mut dependencies = stand.dependencies;
+    let number = cursor.number + 1;
+    let start = cursor.start + (found.frame.body.len() + 6);
+    let mut packages = cursor.packages;
+    let mut dependencies = cursor.dependencies;
     match found.content {
         Content::Header | Content::End => {}
         Content::Package(_) => packages += 1,
@@ -138,7 +139,7 @@ fn noted<'a>(index: &mut Index<'a>, stand: Stand, found: Found<'a>) -> Stand
             });
         }
     }
-    Stand {
+    Cursor {
         number,
         start,
         packages,
@@ -163,7 +164,7 @@ pub(crate) fn first_reading<'a>(index: &mut Index<'a>) -> Result<Counts, FileFau
     if file.len() > MAX_BYTES {
         return Err(FileFault::Size);
     }
-    let mut stand = Stand {
+    let mut cursor = Cursor {
         number: 0,
         start: 0,
         packages: 0,
@@ -171,16 +172,16 @@ pub(crate) fn first_reading<'a>(index: &mut Index<'a>) -> Result<Counts, FileFau
     };
     // A record begins where the one before it ends, and its number and place go into its refusal.
     loop {
-        let start = stand.start;
-        let found = read_record(index, stand, &file[start..])?;
+        let start = cursor.start;
+        let found = read_record(index, cursor, &file[start..])?;
         if is_end(found.content) {
             return Ok(Counts {
                 read: start + (found.frame.body.len() + 6),
-                packages: stand.packages,
-                dependencies: stand.dependencies,
+                packages: cursor.packages,
+                dependencies: cursor.dependencies,
                 features: u32::from(index.lists.count),
             });
         }
-        stand = noted(index, stand, found);
+        cursor = cursor_after(index, cursor, found);
     }
 }

@@ -2,17 +2,16 @@
 ghost use Rattle.std.specs.Prelude.{◌≡◌, ℕ, ◌+◌, ◌^◌, ◌<◌, Bool, List, Result, length};
 ghost use Rattle.records.specs.declared.faults.RecordFault.{RecordFault};
 ghost use Rattle.records.specs.Bodies.{texts};
-ghost use Rattle.records.specs.Graphs.{Part};
+ghost use Rattle.records.specs.Graphs.{Declaration};
 ghost use Rattle.graph.specs.Checks.{AnswersAs, KnowsAs};
-ghost use Rattle.graph.specs.Laying.{its};
-ghost use Rattle.graph.specs.Second.{all_known, names_known, end_known, checked, placed, second_reading};
-ghost use Rattle.graph.specs.Views.{owned_view};
+ghost use Rattle.graph.specs.RowLists.{its};
+ghost use Rattle.graph.specs.Second.{all_known, names_known, end_known, check_all, declaration_places, second_reading};
+ghost use Rattle.graph.specs.Views.{declaration_view};
 
-use crate::contents::{FEATURE_NAME, Owned};
+use crate::contents::{DeclarationRecord, FEATURE_NAME};
 use crate::faults::InRecord;
 use crate::filled::Filled;
-use records::faults::RecordFault;
-use records::strings::Strings;
+use records::{RecordFault, Strings};
 
 // Where in its record the end of a dependency stands.
 const END_PLACE: usize = 6;
@@ -38,15 +37,15 @@ fn all_known<F: Fn(&[u8]) -> bool>(strings: Strings, at: usize, known: F) -> Res
 
 impl<'a> Filled<'a> {
     // Whether what a record names is there.
-    fn names_known(&self, p: u32, part: Owned) -> Result<(), RecordFault>
-        ensures { result ≡ names_known (its self.now) p (owned_view part.entry) }
+    fn names_known(&self, p: u32, declaration: DeclarationRecord) -> Result<(), RecordFault>
+        ensures { result ≡ names_known (its self.now) p (declaration_view declaration.entry) }
     {
-        match part {
-            Owned::Dependency(d) => {
+        match declaration {
+            DeclarationRecord::Dependency(d) => {
                 let at = DEPENDENCY_NAME + d.name.bytes.len() + 1;
                 all_known(d.asks, at, |name| self.has_feature(u32::from(d.end), name))
             }
-            Owned::Feature(f) => {
+            DeclarationRecord::Feature(f) => {
                 let at = FEATURE_NAME + f.name.bytes.len() + 1;
                 all_known(f.values, at, |text| self.known(p, text))
             }
@@ -54,11 +53,12 @@ impl<'a> Filled<'a> {
     }
 
     // Whether the end of a dependency is a package.
-    fn end_known(&self, part: Owned) -> Result<(), RecordFault>
-        ensures { result ≡ end_known (its self.now) (owned_view part.entry) }
+    fn end_known(&self, declaration: DeclarationRecord) -> Result<(), RecordFault>
+        ensures { result ≡ end_known (its self.now) (declaration_view declaration.entry) }
     {
-        match part {
-            Owned::Dependency(d) if u32::from(d.end) >= self.directory.counts.packages => {
+        match declaration {
+            DeclarationRecord::Dependency(d)
+                if u32::from(d.end) >= self.directory.counts.packages => {
                 Err(RecordFault::Unknown { field: END_PLACE })
             }
             _ => Ok(()),
@@ -67,18 +67,18 @@ impl<'a> Filled<'a> {
 
     // Puts a question to each record, with the number of its package. A fault gets the number and the start of its
     // record: the header, the packages up to the owner and `j` parts are before it.
-    fn check<F: Fn(u32, Owned<'a>) -> Result<(), RecordFault>>(
+    fn check<F: Fn(u32, DeclarationRecord<'a>) -> Result<(), RecordFault>>(
         &self,
         known: F,
     ) -> Result<(), InRecord>
         requires { F.IsAlwaysCallable known }
-        ensures { (test : ℕ → Part → Result (Unit {0}) RecordFault) → AnswersAs (F.post known) test → result ≡ checked (λ x. test x.owner x.part) (placed (its self.now)) }
+        ensures { (test : ℕ → Declaration → Result (Unit {0}) RecordFault) → AnswersAs (F.post known) test → result ≡ check_all (λ x. test x.owner x.declaration) (declaration_places (its self.now)) }
     {
-        for (j, entry) in self.parts().iter().enumerate() {
-            let Some(part) = self.part_at(entry.start) else {
+        for (j, entry) in self.declarations().iter().enumerate() {
+            let Some(declaration) = self.declaration_at(entry.start) else {
                 continue;
             };
-            if let Err(fault) = known(entry.owner, part) {
+            if let Err(fault) = known(entry.owner, declaration) {
                 return Err(InRecord {
                     number: j + entry.owner as usize + 2,
                     start: entry.start as usize,
@@ -93,7 +93,7 @@ impl<'a> Filled<'a> {
     pub(crate) fn second_reading(&self) -> Result<(), InRecord>
         ensures { result ≡ second_reading (its self.now) }
     {
-        self.check(|_p, part| self.end_known(part))?;
-        self.check(|p, part| self.names_known(p, part))
+        self.check(|_p, declaration| self.end_known(declaration))?;
+        self.check(|p, declaration| self.names_known(p, declaration))
     }
 }

@@ -1,27 +1,27 @@
 // Rule rows.
 ghost use Rattle.std.specs.Prelude.{◌≡◌};
 ghost use Rattle.std.specs.Result.{result_ok};
-ghost use Rattle.graph.specs.Rules.{mate_of, row_words, row_from};
+ghost use Rattle.graph.specs.Rules.{with_of, row_words, row_from};
 
-use records::lanes::{LANES, Lane};
+use lanes::{LANES, Lane};
 
 // The most rule rows of a graph.
-pub const MAX_ROWS: u32 = 262_144;
+pub const MAX_RULE_ROWS: u32 = 262_144;
 
 // The words before the rows, and the words of a row.
-pub const HEAD: usize = 4;
+pub const HEAD_WORDS: usize = 4;
 
-pub const WIDTH: usize = 5;
+pub const ROW_WIDTH: usize = 5;
 
 // The word that means none.
 const NONE: u32 = u32::MAX;
 
-// A row: with its premises `from` and `mate` active, `to` is to be active. It is of a lane, or about no dependency.
+// A row: with its premises `from` and `with` active, `to` is to be active. It is of a lane, or about no dependency.
 // With `cross` the conclusion is on the side where the lane leads.
 #[derive(Clone, Copy, PartialEq, Eq, Debug)]
 pub struct Row {
     pub from: u32,
-    pub mate: Option<u32>,
+    pub with: Option<u32>,
     pub to: u32,
     pub lane: Option<Lane>,
     pub cross: bool,
@@ -43,19 +43,19 @@ pub struct Opened {
 }
 
 // The item that a word names, if any.
-pub fn mate_of(word: u32) -> Option<u32>
-    ensures { result ≡ mate_of word }
+pub fn with_of(word: u32) -> Option<u32>
+    ensures { result ≡ with_of word }
 {
     (word != NONE).then_some(word)
 }
 
-impl From<Row> for [u32; WIDTH] {
+impl From<Row> for [u32; ROW_WIDTH] {
     ghost from_gives = { λ row words. words ≡ row_words row };
 
-    fn from(row: Row) -> [u32; WIDTH] {
+    fn from(row: Row) -> [u32; ROW_WIDTH] {
         [
             row.from,
-            row.mate.unwrap_or(NONE),
+            row.with.unwrap_or(NONE),
             row.to,
             row.lane.map_or(LANES, u32::from),
             u32::from(row.cross),
@@ -63,19 +63,19 @@ impl From<Row> for [u32; WIDTH] {
     }
 }
 
-impl TryFrom<[u32; WIDTH]> for Row {
+impl TryFrom<[u32; ROW_WIDTH]> for Row {
     type Error = NoRow;
 
     ghost try_from_gives = { λ words r. result_ok r ≡ row_from words };
 
-    fn try_from(words: [u32; WIDTH]) -> Result<Row, NoRow> {
-        let [from, mate, to, lane, cross] = words;
+    fn try_from(words: [u32; ROW_WIDTH]) -> Result<Row, NoRow> {
+        let [from, with, to, lane, cross] = words;
         if lane > LANES || cross > 1 {
             return Err(NoRow);
         }
         Ok(Row {
             from,
-            mate: mate_of(mate),
+            with: with_of(with),
             to,
             lane: Lane::try_from(lane).ok(),
             cross: cross == 1,

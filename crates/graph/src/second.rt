@@ -1,13 +1,12 @@
 // The second reading: everything that is named is there.
 ghost use Rattle.std.specs.Prelude.{◌≡◌};
 ghost use Rattle.records.specs.Bodies.{form_in};
-ghost use Rattle.graph.specs.Laying.{its};
+ghost use Rattle.graph.specs.RowLists.{its};
 ghost use Rattle.graph.specs.Places.{dependencies_of};
-ghost use Rattle.graph.specs.Second.{has_dependency, ends_have, known as known_in};
+ghost use Rattle.graph.specs.Second.{has_dependency, ends_have, is_known as is_known_in};
 
 use crate::filled::Filled;
-use text::parts::FeatureString;
-use text::strings::read_feature_string;
+use text::{FeatureString, read_feature_string};
 
 impl<'a> Filled<'a> {
     // Whether a package has a dependency of this name.
@@ -32,7 +31,7 @@ impl<'a> Filled<'a> {
 
     // Whether what a feature string of a package names is there.
     pub(crate) fn known(&self, p: u32, text: &[u8]) -> bool
-        ensures { result ≡ known_in (its self.now) p (form_in text.now) }
+        ensures { result ≡ is_known_in (its self.now) p (form_in text.now) }
     {
         match read_feature_string(text) {
             Ok(FeatureString::Plain { feature }) => self.has_feature(p, feature.bytes),

@@ -1,6 +1,6 @@
 // The tables of a directory.
 ghost use Rattle.std.specs.Prelude.{◌+◌, ◌≤◌, length};
-ghost use Rattle.graph.specs.Limits.{most_local_items};
+ghost use Rattle.graph.specs.Limits.{max_local_items};
 
 use crate::contents::Counts;
 use crate::index::{Index, MAX_FEATURES};
@@ -10,7 +10,7 @@ pub const MAX_PACKAGES: usize = 4_096;
 
 pub const MAX_DEPENDENCIES: usize = 16_384;
 
-pub(crate) const MAX_PARTS: usize = 32_768;
+pub(crate) const MAX_DECLARATIONS: usize = 32_768;
 
 // A package: its proc mark, and the numbers of its first dependency and of its first feature. Where they end, the next
 // package's begin: an end in here would be the same number once more.
@@ -23,7 +23,7 @@ pub(crate) struct PackageEntry {
 
 // A dependency or feature record: its start in the file, and the number of its package.
 #[derive(Clone, Copy)]
-pub(crate) struct PartEntry {
+pub(crate) struct DeclarationEntry {
     pub start: u32,
     pub owner: u32,
 }
@@ -33,7 +33,7 @@ pub(crate) struct PartEntry {
 pub(crate) struct Starts<'a> {
     pub first: u32,
     pub starts: &'a [u32],
-    ghost few: { first + length starts.now ≤ most_local_items },
+    ghost few: { first + length starts.now ≤ max_local_items },
 }
 
 // Where everything stands in a graph file that the first reading has accepted. `packages`, `dependencies` and
@@ -49,5 +49,5 @@ pub(crate) struct Directory<'a> {
     pub packages: [PackageEntry; MAX_PACKAGES],
     pub dependencies: [u32; MAX_DEPENDENCIES],
     pub features: [u32; MAX_FEATURES],
-    pub parts: [PartEntry; MAX_PARTS],
+    pub declarations: [DeclarationEntry; MAX_DECLARATIONS],
 }

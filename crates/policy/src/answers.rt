@@ -1,11 +1,10 @@
 // What a separation policy is, and its questions by number.
 ghost use Rattle.std.specs.Prelude.{◌≡◌, Option};
-ghost use Rattle.records.specs.declared.lanes.Lane.{Lane};
-ghost use Rattle.policy.specs.declared.sides.Side.{Side};
-ghost use Rattle.policy.specs.Answers.{Lawful, answered};
+ghost use Rattle.lanes.specs.declared.lane_numbers.Lane.{Lane};
+ghost use Rattle.lanes.specs.declared.sides.Side.{Side};
+ghost use Rattle.policy.specs.Answers.{LawfulAnswers, answer_by_number};
 
-use crate::sides::Side;
-use records::lanes::Lane;
+use lanes::{Lane, Side};
 
 // A policy is what it answers for each lane and side, asked apart: a struct of both would be built at each call and
 // taken apart in each policy. Its law: from the host, no lane leads to the target.
@@ -16,12 +15,12 @@ pub trait Policy {
     fn leads(&self, lane: Lane, side: Side) -> Option<Side>
         ensures { result ≡ answers self.now lane side };
 
-    ghost lawful: { (p : Self) → Lawful (answers p) };
+    ghost lawful: { (p : Self) → LawfulAnswers (answers p) };
 }
 
 // Where the lane of a number leads from the side of a number: nowhere, if one of them is no such number.
 pub fn answer<P: Policy>(policy: &P, lane: u32, side: u32) -> Option<Side>
-    ensures { result ≡ answered (P.Policy.answers policy.now) lane side }
+    ensures { result ≡ answer_by_number (P.Policy.answers policy.now) lane side }
 {
     let lane = Lane::try_from(lane).ok()?;
     let side = Side::try_from(side).ok()?;

@@ -3,9 +3,7 @@ ghost use Rattle.policy.specs.Answers.{dev_cut};
 ghost use Rattle.std.proofs.Common.{rules};
 
 use crate::answers::Policy;
-use crate::sides::Side;
-use records::bodies::Edge;
-use records::lanes::Lane;
+use lanes::{EdgeKind, Lane, Side};
 
 // Dev dependencies are cut; all else is as the policy below answers.
 #[derive(Clone, Copy, PartialEq, Eq, Debug)]
@@ -20,8 +18,8 @@ impl<P: Policy> Policy for DevCut<P> {
 
     fn leads(&self, lane: Lane, side: Side) -> Option<Side> {
         match lane.edge {
-            Edge::Dev => None,
-            Edge::Normal | Edge::Build => self.below.leads(lane, side),
+            EdgeKind::Dev => None,
+            EdgeKind::Normal | EdgeKind::Build => self.below.leads(lane, side),
         }
     }
 }

@@ -3,9 +3,7 @@ ghost use Rattle.policy.specs.Answers.{host_split};
 ghost use Rattle.std.proofs.Common.{rules};
 
 use crate::answers::Policy;
-use crate::sides::Side;
-use records::bodies::Edge;
-use records::lanes::Lane;
+use lanes::{EdgeKind, Lane, Side};
 
 // From the target, build dependencies and procedural macros lead to the host; all else stays on its side.
 #[derive(Clone, Copy, PartialEq, Eq, Debug)]
@@ -18,7 +16,7 @@ impl Policy for HostSplit {
 
     fn leads(&self, lane: Lane, side: Side) -> Option<Side> {
         match (lane.edge, lane.procedural) {
-            (Edge::Build, _) | (_, true) => Some(Side::Host),
+            (EdgeKind::Build, _) | (_, true) => Some(Side::Host),
             _ => Some(side),
         }
     }

@@ -1,10 +1,15 @@
-// Separation policies: on which side a dependency's end is to be built.
+//! Separation policies: on which side a dependency's end is to be built.
 
 #![tactic(auto)]
 
-pub mod answers;
-pub mod dev_cut;
-pub mod host_split;
-pub mod sides;
-pub mod told;
-pub mod unified;
+mod answers;
+mod dev_cut;
+mod host_split;
+mod policy_table;
+mod unified;
+
+pub use answers::{Policy, answer};
+pub use dev_cut::DevCut;
+pub use host_split::HostSplit;
+pub use policy_table::PolicyTable;
+pub use unified::Unified;

@@ -3,8 +3,7 @@ ghost use Rattle.policy.specs.Answers.{unified};
 ghost use Rattle.std.proofs.Common.{rules};
 
 use crate::answers::Policy;
-use crate::sides::Side;
-use records::lanes::Lane;
+use lanes::{Lane, Side};
 
 // Each side leads to itself.
 #[derive(Clone, Copy, PartialEq, Eq, Debug)]

@@ -7,17 +7,19 @@ use Rattle.std.specs.List.{flat_map, AllByRecursion}
 use Rattle.text.specs.declared.faults.StringFault.{StringFault}
 use Rattle.text.specs.declared.faults.StringFault.TheVariants.{NoForm}
 use Rattle.text.specs.Names.{Name}
-use Rattle.text.specs.Forms.{Form, Piece, spell, Lawful, placed, unplaced}
+use Rattle.text.specs.Forms.{Form, Piece, spell, LawfulForm, with_places, without_places}
 use Rattle.text.specs.Readers.{read_name, read_form}
 use Rattle.text.proofs.NameRuns.{name-law}
 use Rattle.text.proofs.FormLaws.{form-law, unplaced-placed}
 use Rattle.records.specs.declared.faults.RecordFault.TheVariants.{Ragged}
 use Rattle.records.specs.declared.faults.InField.{InField}
-use Rattle.records.specs.declared.bodies.Edge.{Edge}
-use Rattle.records.specs.declared.bodies.Edge.TheVariants.{Normal, Build, Dev}
-use Rattle.records.specs.Fields.{View, Field, on_ok, and_then, give, byte_of, byte_field, word_of, word_field, string_of, in_field, or_text, name_of, form_of, switch_at, switch_field, edge_at, edge_field}
+use Rattle.lanes.specs.declared.edge_kinds.EdgeKind.{EdgeKind}
+use Rattle.lanes.specs.declared.edge_kinds.EdgeKind.TheVariants.{Normal, Build, Dev}
+use Rattle.records.specs.Fields.{View, Field, on_ok, and_then, give, byte_of, byte_field, word_of, word_field, string_of, in_field, or_text, name_from, form_from, switch_at, switch_field, edge_at, edge_field}
 use Rattle.records.specs.Bodies.{many, name_text, form_text, names_field, forms_field, values_field, package_field, dependency_field}
-use Rattle.records.specs.Encoding.{two, string, list_bytes, value, bit, edge_number, Bytes}
+use Rattle.records.specs.Encoding.{two, string, list_bytes, value, Bytes}
+use Rattle.lanes.specs.EdgeKinds.{edge_kind_number}
+use Rattle.lanes.specs.Lanes.{bit}
 use Rattle.records.proofs.Numbers.{not-both, in-ok, two_is, two-value, bytes-split}
 use Rattle.records.proofs.Codes.{at, Coded, Closed, first, then-closed, closed-give, many-coded}
 
@@ -69,13 +71,13 @@ switch-coded = chosen-coded switch_at bit by-switch chooses
     chooses k v false = refl
     chooses k v true = refl
 
-by-edge : (k b : ℕ) (v : View) (a : Edge) (w : View) → edge_at k b v ≡ Ok (a, w) → (b ≡ edge_number a) × (w ≡ v)
+by-edge : (k b : ℕ) (v : View) (a : EdgeKind) (w : View) → edge_at k b v ≡ Ok (a, w) → (b ≡ edge_kind_number a) × (w ≡ v)
 by-edge k b v a w e = grind (arith, common_steps)
 
-pub edge-coded : Coded edge_field (λ _. Unit {0}) (λ a. edge_number a ∷ [])
-edge-coded = chosen-coded edge_at edge_number by-edge chooses
+pub edge-coded : Coded edge_field (λ _. Unit {0}) (λ a. edge_kind_number a ∷ [])
+edge-coded = chosen-coded edge_at edge_kind_number by-edge chooses
   where
-    chooses : (k : ℕ) (v : View) (a : Edge) → edge_at k (edge_number a) v ≡ Ok (a, v)
+    chooses : (k : ℕ) (v : View) (a : EdgeKind) → edge_at k (edge_kind_number a) v ≡ Ok (a, v)
     chooses k v Normal = refl
     chooses k v Build = refl
     chooses k v Dev = refl
@@ -125,7 +127,7 @@ module _ {A B : Type 0} (judge : Piece → Result B InField) (out : B → A) (Go
         ∙ (λ i. Ok (j.2 i, at rest (z i)));
   }
 
-name-judged : (p q : Piece) → name_of p ≡ Ok q → Name q.text × (p.text ≡ q.text)
+name-judged : (p q : Piece) → name_from p ≡ Ok q → Name q.text × (p.text ≡ q.text)
 name-judged p q e = go (read_name p.text) refl e
   where
     go : (r : Result Piece StringFault) → read_name p.text ≡ r → in_field {A = Piece} p.place (λ _. p) r ≡ Ok q → Name q.text × (p.text ≡ q.text)
@@ -136,33 +138,33 @@ name-judged p q e = go (read_name p.text) refl e
     go (Err f) x h = absurd (not-both h)
 
 pub name-coded : Coded name_text Name string
-name-coded = string-coded name_of (λ p. p.text) Name (λ t. t) name-judged
+name-coded = string-coded name_from (λ p. p.text) Name (λ t. t) name-judged
     (λ t k good. (record { place = k; text = t }, ap (in_field {A = Piece} k (λ _. record { place = k; text = t })) ((name-law t (read_name t) refl).complete t good refl), refl))
 
-form-judged : (p : Piece) (f : Form Piece) → form_of p ≡ Ok f → Lawful (unplaced f) × (p.text ≡ spell (unplaced f))
+form-judged : (p : Piece) (f : Form Piece) → form_from p ≡ Ok f → LawfulForm (without_places f) × (p.text ≡ spell (without_places f))
 form-judged p f e = go (eqb (length p.text) 0) (read_form p.text) refl e
   where
-    go : (x : Bool) (r : Result (Form Piece) StringFault) → read_form p.text ≡ r → cond x (Err (record { field = p.place; fault = NoForm 0 })) (in_field p.place (λ z. z) r) ≡ Ok f → Lawful (unplaced f) × (p.text ≡ spell (unplaced f))
+    go : (x : Bool) (r : Result (Form Piece) StringFault) → read_form p.text ≡ r → cond x (Err (record { field = p.place; fault = NoForm 0 })) (in_field p.place (λ z. z) r) ≡ Ok f → LawfulForm (without_places f) × (p.text ≡ spell (without_places f))
     go true r q h = absurd (not-both h)
     go false (Ok a) q h =
         let s = (form-law p.text (read_form p.text) refl).sound a q in
-        let o : unplaced f ≡ s.0 = ap unplaced (sym (in-ok a f h)) ∙ ap unplaced s.3 ∙ unplaced-placed s.0 in
-        (subst Lawful (sym o) s.1, s.2 ∙ ap spell (sym o))
+        let o : without_places f ≡ s.0 = ap without_places (sym (in-ok a f h)) ∙ ap without_places s.3 ∙ unplaced-placed s.0 in
+        (subst LawfulForm (sym o) s.1, s.2 ∙ ap spell (sym o))
     go false (Err x) q h = absurd (not-both h)
 
-form-judges : (f : Form (List ℕ)) (k : ℕ) → Lawful f → (b : Form Piece) × (form_of (record { place = k; text = spell f }) ≡ Ok b) × (unplaced b ≡ f)
+form-judges : (f : Form (List ℕ)) (k : ℕ) → LawfulForm f → (b : Form Piece) × (form_from (record { place = k; text = spell f }) ≡ Ok b) × (without_places b ≡ f)
 form-judges f k good = go (spell f) refl
   where
-    go : (t : List ℕ) → spell f ≡ t → (b : Form Piece) × (form_of (record { place = k; text = t }) ≡ Ok b) × (unplaced b ≡ f)
+    go : (t : List ℕ) → spell f ≡ t → (b : Form Piece) × (form_from (record { place = k; text = t }) ≡ Ok b) × (without_places b ≡ f)
     go [] e =
-        let a : read_form [] ≡ Ok (placed f) = (form-law [] (read_form []) refl).complete f good (sym e) in
+        let a : read_form [] ≡ Ok (with_places f) = (form-law [] (read_form []) refl).complete f good (sym e) in
         absurd (not-both a)
     go (x ∷ t) e =
-        let a : read_form (x ∷ t) ≡ Ok (placed f) = (form-law (x ∷ t) (read_form (x ∷ t)) refl).complete f good (sym e) in
-        (placed f, cond-false _ _ _ (ne_eqb (length (x ∷ t)) 0 (λ z. omega arith)) ∙ ap (in_field k (λ z. z)) a, unplaced-placed f)
+        let a : read_form (x ∷ t) ≡ Ok (with_places f) = (form-law (x ∷ t) (read_form (x ∷ t)) refl).complete f good (sym e) in
+        (with_places f, cond-false _ _ _ (ne_eqb (length (x ∷ t)) 0 (λ z. omega arith)) ∙ ap (in_field k (λ z. z)) a, unplaced-placed f)
 
-pub form-coded : Coded form_text Lawful value
-form-coded = string-coded form_of unplaced Lawful spell form-judged form-judges
+pub form-coded : Coded form_text LawfulForm value
+form-coded = string-coded form_from without_places LawfulForm spell form-judged form-judges
 
 -- lists
 module _ {A : Type 0} {m : Field A} {Good : A → Type 0} {bytes : A → List ℕ} (code : Coded m Good bytes) where
@@ -184,7 +186,7 @@ module _ {A : Type 0} {m : Field A} {Good : A → Type 0} {bytes : A → List �
 pub names-coded : Coded names_field (λ ts. (length ts < 256) × AllByRecursion Name ts) (list_bytes string)
 names-coded = list-coded name-coded
 
-pub forms-coded : Coded forms_field (λ fs. (length fs < 256) × AllByRecursion Lawful fs) (list_bytes value)
+pub forms-coded : Coded forms_field (λ fs. (length fs < 256) × AllByRecursion LawfulForm fs) (list_bytes value)
 forms-coded = list-coded form-coded
 
 -- bodies
@@ -195,11 +197,11 @@ package-closed =
     then-closed name-coded (λ h. h.name) _ _ _ _ (λ name.
     closed-give (record { proc = proc; name = name }) _ ((tt, refl), refl) (λ h b. λ i. record { proc = b.0.1 i; name = b.1 i })))
 
-pub values-closed : Closed values_field (λ _. Unit {0}) (λ fs. ((length fs < 256) × AllByRecursion Lawful fs) × Unit {0}) (λ fs. list_bytes value fs ++ [])
+pub values-closed : Closed values_field (λ _. Unit {0}) (λ fs. ((length fs < 256) × AllByRecursion LawfulForm fs) × Unit {0}) (λ fs. list_bytes value fs ++ [])
 values-closed = then-closed forms-coded (λ fs. fs) _ _ _ _ (λ fs. closed-give fs _ (tt, refl) (λ gs b. b.1))
 
 pub dependency-closed : Closed dependency_field (λ _. Unit {0}) (λ d. (d.end < 65536) × (Unit {0} × (Unit {0} × (Unit {0} × (Name d.name × (((length d.asks < 256) × AllByRecursion Name d.asks) × Unit {0}))))))
-    (λ d. two d.end ++ ((edge_number d.edge ∷ []) ++ ((bit d.optional ∷ []) ++ ((bit d.defaults ∷ []) ++ (string d.name ++ (list_bytes string d.asks ++ []))))))
+    (λ d. two d.end ++ ((edge_kind_number d.edge ∷ []) ++ ((bit d.optional ∷ []) ++ ((bit d.defaults ∷ []) ++ (string d.name ++ (list_bytes string d.asks ++ []))))))
 dependency-closed =
     then-closed word-coded (λ d. d.end) _ _ _ _ (λ end.
     then-closed edge-coded (λ d. d.edge) _ _ _ _ (λ edge.

@@ -26,17 +26,17 @@ first (Ok p) f b w e = (p.0, p.1, refl, e)
 first (Err x) f b w e = absurd (not-both e)
 
 -- one field more in front
-pub then-closed : {A B : Type 0} {m : Field A} {Good : A → Type 0} {bytes : A → List ℕ} (code : Coded m Good bytes) (part : B → A) (k : A → Field B) (Before More : B → Type 0) (rest : B → List ℕ) → ((a : A) → Closed (k a) (λ b. Before b × (part b ≡ a)) More rest) → Closed (and_then m k) Before (λ b. Good (part b) × More b) (λ b. bytes (part b) ++ rest b)
-then-closed {A} {B} {m} {Good} {bytes} code part k Before More rest tail = record {
+pub then-closed : {A B : Type 0} {m : Field A} {Good : A → Type 0} {bytes : A → List ℕ} (code : Coded m Good bytes) (declaration : B → A) (k : A → Field B) (Before More : B → Type 0) (rest : B → List ℕ) → ((a : A) → Closed (k a) (λ b. Before b × (declaration b ≡ a)) More rest) → Closed (and_then m k) Before (λ b. Good (declaration b) × More b) (λ b. bytes (declaration b) ++ rest b)
+then-closed {A} {B} {m} {Good} {bytes} code declaration k Before More rest tail = record {
   sound = λ bs p b w fit e.
       let h = first (m (at bs p)) k b w e in
       let c = code.sound bs p h.0 h.1 fit h.2 in
       let t = (tail h.0).sound h.1.left h.1.place b w (bytes-split (bytes h.0) h.1.left (subst Bytes c.1 fit)).1 h.3 in
-      let q : h.0 ≡ part b = sym t.0.1 in
+      let q : h.0 ≡ declaration b = sym t.0.1 in
       (t.0.0, (subst Good q c.0, t.1), c.1 ∙ (λ i. bytes (q i) ++ t.2 i));
   complete = λ b p before good.
-      let e = code.complete (part b) (rest b) p good.0 in
-      let t = (tail (part b)).complete b (p + length (bytes (part b))) (before, refl) good.1 in
+      let e = code.complete (declaration b) (rest b) p good.0 in
+      let t = (tail (declaration b)).complete b (p + length (bytes (declaration b))) (before, refl) good.1 in
       (t.0, ap (λ r. on_ok r k) e ∙ t.1);
 }
 

@@ -7,5 +7,4 @@ pub mod KindNumbers
 pub mod Codes
 pub mod CodedFields
 pub mod Listings
-pub mod LaneNumbers
 pub mod Counts

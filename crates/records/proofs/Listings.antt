@@ -1,12 +1,12 @@
 -- How many strings a list has, and how what one says is spelled.
 use Rattle.std.proofs.Common.{◌≡◌, ℕ, zero, suc, ◌≤◌, List, [], ◌∷◌, length, drop, Ok, Err, Result, sym, refl, ap, ◌∙◌, arith}
 use Rattle.text.specs.declared.faults.StringFault.{StringFault}
-use Rattle.text.specs.Forms.{Form, Piece, spell, unplaced}
+use Rattle.text.specs.Forms.{Form, Piece, spell, without_places}
 use Rattle.text.specs.Readers.{read_form}
 use Rattle.text.proofs.FormLaws.{form-law, unplaced-placed}
-use Rattle.records.specs.Bodies.{listed, said, form_in}
+use Rattle.records.specs.Bodies.{strings_in, form_or_plain, form_in}
 
-pub listed-length : (n : ℕ) (bs : List ℕ) → length (listed n bs) ≤ n
+pub listed-length : (n : ℕ) (bs : List ℕ) → length (strings_in n bs) ≤ n
 listed-length zero bs = omega arith
 listed-length (suc n) [] = omega arith
 listed-length (suc n) (k ∷ bs) = omega (arith, listed-length n (drop k bs))
@@ -15,8 +15,8 @@ listed-length (suc n) (k ∷ bs) = omega (arith, listed-length n (drop k bs))
 pub said-spelled : (t : List ℕ) → spell (form_in t) ≡ t
 said-spelled t = go (read_form t) refl
   where
-    go : (r : Result (Form Piece) StringFault) → read_form t ≡ r → spell (said t r) ≡ t
+    go : (r : Result (Form Piece) StringFault) → read_form t ≡ r → spell (form_or_plain t r) ≡ t
     go (Ok f) e =
         let s = (form-law t (read_form t) refl).sound f e in
-        ap spell (ap unplaced s.3 ∙ unplaced-placed s.0) ∙ sym s.2
+        ap spell (ap without_places s.3 ∙ unplaced-placed s.0) ∙ sym s.2
     go (Err x) e = refl

@@ -2,13 +2,13 @@
 use Rattle.std.specs.Prelude.{◌≡◌, ℕ, zero, suc, ◌+◌, ◌≤◌, Bool, List, [], ◌∷◌, map, length, take, drop, Some, None, Ok, Err, Option, Result}
 use Rattle.std.specs.Borrow.{Bor}
 use Rattle.text.specs.declared.faults.StringFault.{StringFault}
-use Rattle.text.specs.Forms.{Form, plain, Piece, unplaced}
+use Rattle.text.specs.Forms.{Form, plain, Piece, without_places}
 use Rattle.text.specs.Readers.{read_form}
 use Rattle.records.specs.declared.strings.Strings.{Strings}
 use Rattle.records.specs.declared.bodies.Package.{Package as PackageBody}
 use Rattle.records.specs.declared.bodies.Dependency.{Dependency as DependencyBody}
 use Rattle.records.specs.declared.bodies.Feature.{Feature as FeatureBody}
-use Rattle.records.specs.Fields.{Field, and_then, give, byte_field, word_field, name_field, form_field, switch_field, edge_field, closed_field, labelled, void}
+use Rattle.records.specs.Fields.{Field, and_then, give, byte_field, word_field, name_field, form_field, switch_field, edge_field, closed_field, with_value, void}
 use Rattle.records.specs.Graphs.{Dependency, Feature}
 
 -- so many of one field
@@ -21,7 +21,7 @@ abbrev pub name_text : Field (List ℕ)
 name_text = and_then name_field (λ p. give p.text)
 
 abbrev pub form_text : Field (Form (List ℕ))
-form_text = and_then form_field (λ f. give (unplaced f))
+form_text = and_then form_field (λ f. give (without_places f))
 
 -- a count byte and that many names, or feature strings
 abbrev pub names_field : Field (List (List ℕ))
@@ -35,26 +35,26 @@ abbrev pub values_field : Field (List (Form (List ℕ)))
 values_field = and_then forms_field (λ values. and_then closed_field (λ _. give values))
 
 -- so many strings at the front of some bytes
-abbrev pub listed : ℕ → List ℕ → List (List ℕ)
-listed zero bs = []
-listed (suc n) [] = []
-listed (suc n) (k ∷ bs) = take k bs ∷ listed n (drop k bs)
+abbrev pub strings_in : ℕ → List ℕ → List (List ℕ)
+strings_in zero bs = []
+strings_in (suc n) [] = []
+strings_in (suc n) (k ∷ bs) = take k bs ∷ strings_in n (drop k bs)
 
 -- what a feature string says; those in a graph have a form
-abbrev pub said : List ℕ → Result (Form Piece) StringFault → Form (List ℕ)
-said t (Ok f) = unplaced f
-said t (Err e) = plain t
+abbrev pub form_or_plain : List ℕ → Result (Form Piece) StringFault → Form (List ℕ)
+form_or_plain t (Ok f) = without_places f
+form_or_plain t (Err e) = plain t
 
 abbrev pub form_in : List ℕ → Form (List ℕ)
-form_in t = said t (read_form t)
+form_in t = form_or_plain t (read_form t)
 
 -- a count byte and that many strings, each of which m reads; they stay strings
 abbrev pub list_field : {A : Type 0} → Field A → Field (List (List ℕ))
-list_field m = and_then byte_field (λ n v. labelled (listed n v.left) (void (many m n) v))
+list_field m = and_then byte_field (λ n v. with_value (strings_in n v.left) (void (many m n) v))
 
 -- a list of strings in a record, as what they are
 abbrev pub texts : Strings → List (List ℕ)
-texts s = listed s.count s.bytes.now
+texts s = strings_in s.count s.bytes.now
 
 abbrev pub forms : Strings → List (Form (List ℕ))
 forms s = map form_in (texts s)

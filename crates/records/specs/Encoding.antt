@@ -2,12 +2,12 @@
 use Rattle.std.specs.Prelude.{ℕ, ◌+◌, ◌/◌, ◌%◌, ◌<◌, Bool, true, false, List, [], ◌∷◌, ◌++◌, length}
 use Rattle.std.specs.List.{flat_map, AllByRecursion}
 use Rattle.text.specs.Names.{Name}
-use Rattle.text.specs.Forms.{Form, spell, Lawful}
-use Rattle.records.specs.declared.bodies.Edge.{Edge}
-use Rattle.records.specs.declared.bodies.Edge.TheVariants.{Normal, Build, Dev}
+use Rattle.text.specs.Forms.{Form, spell, LawfulForm}
+use Rattle.lanes.specs.EdgeKinds.{edge_kind_number}
+use Rattle.lanes.specs.Lanes.{bit}
 use Rattle.records.specs.declared.frames.Kind.{Kind}
 use Rattle.records.specs.declared.frames.Kind.TheVariants as kind
-use Rattle.records.specs.Graphs.{Dependency, Feature, Part, dependency, feature, Package, Graph}
+use Rattle.records.specs.Graphs.{Dependency, Feature, Declaration, dependency, feature, Package, Graph}
 
 -- a number in two bytes and in four, the lowest byte first
 abbrev pub two : ℕ → List ℕ
@@ -40,15 +40,6 @@ list_bytes bytes xs = length xs ∷ flat_map bytes xs
 abbrev pub value : Form (List ℕ) → List ℕ
 value f = string (spell f)
 
-abbrev pub bit : Bool → ℕ
-bit false = 0
-bit true = 1
-
-abbrev pub edge_number : Edge → ℕ
-edge_number Normal = 0
-edge_number Build = 1
-edge_number Dev = 2
-
 -- proc mark, name
 abbrev pub package_body : Bool → List ℕ → List ℕ
 package_body proc name = (bit proc ∷ []) ++ string name
@@ -56,19 +47,19 @@ package_body proc name = (bit proc ∷ []) ++ string name
 -- end, edge kind, optional, defaults, name, asks
 abbrev pub dependency_body : Dependency → List ℕ
 dependency_body d =
-    two d.end ++ ((edge_number d.edge ∷ []) ++ ((bit d.optional ∷ []) ++ ((bit d.defaults ∷ [])
+    two d.end ++ ((edge_kind_number d.edge ∷ []) ++ ((bit d.optional ∷ []) ++ ((bit d.defaults ∷ [])
     ++ (string d.name ++ list_bytes string d.asks))))
 
 -- name, values
 abbrev pub feature_body : Feature → List ℕ
 feature_body f = string f.name ++ list_bytes value f.values
 
-abbrev pub part_bytes : Part → List ℕ
-part_bytes (dependency d) = record_bytes (kind_number kind.Dependency) (dependency_body d)
-part_bytes (feature f) = record_bytes (kind_number kind.Feature) (feature_body f)
+abbrev pub declaration_bytes : Declaration → List ℕ
+declaration_bytes (dependency d) = record_bytes (kind_number kind.Dependency) (dependency_body d)
+declaration_bytes (feature f) = record_bytes (kind_number kind.Feature) (feature_body f)
 
 abbrev pub package_bytes : Package → List ℕ
-package_bytes p = record_bytes (kind_number kind.Package) (package_body p.proc p.name) ++ flat_map part_bytes p.parts
+package_bytes p = record_bytes (kind_number kind.Package) (package_body p.proc p.name) ++ flat_map declaration_bytes p.declarations
 
 abbrev pub end_bytes : List ℕ
 end_bytes = record_bytes (kind_number kind.End) []
@@ -89,7 +80,7 @@ abbrev pub LawfulDependency : Dependency → Type 0
 LawfulDependency d = (d.end < 65536) × Name d.name × (length d.asks < 256) × AllByRecursion Name d.asks
 
 abbrev pub LawfulFeature : Feature → Type 0
-LawfulFeature f = Name f.name × (length f.values < 256) × AllByRecursion Lawful f.values
+LawfulFeature f = Name f.name × (length f.values < 256) × AllByRecursion LawfulForm f.values
 
 -- each number is a byte
 abbrev pub Bytes : List ℕ → Type 0

@@ -9,8 +9,8 @@ use Rattle.records.specs.declared.faults.InField.{InField}
 use Rattle.records.specs.declared.faults.RecordFault.{RecordFault}
 use Rattle.records.specs.declared.faults.RecordFault.TheVariants.{Ragged, Mark, Text}
 use Rattle.records.specs.declared.reader.Reader.{Reader}
-use Rattle.records.specs.declared.bodies.Edge.{Edge}
-use Rattle.records.specs.declared.bodies.Edge.TheVariants.{Normal, Build, Dev}
+use Rattle.lanes.specs.declared.edge_kinds.EdgeKind.{EdgeKind}
+use Rattle.lanes.specs.declared.edge_kinds.EdgeKind.TheVariants.{Normal, Build, Dev}
 
 -- what is left of a record, and the place in it where that begins
 pub record View : Type 0 where
@@ -93,20 +93,20 @@ or_text (Err e) v = Err (Text e)
 abbrev pub text_field : {A : Type 0} → (Piece → Result A InField) → Field A
 text_field read = and_then string_field (λ p. or_text (read p))
 
-abbrev pub name_of : Piece → Result Piece InField
-name_of p = in_field p.place (λ _. p) (read_name p.text)
+abbrev pub name_from : Piece → Result Piece InField
+name_from p = in_field p.place (λ _. p) (read_name p.text)
 
 abbrev pub name_field : Field Piece
-name_field = text_field name_of
+name_field = text_field name_from
 
 -- a feature string; the empty one has a test of its own
-abbrev pub form_of : Piece → Result (Form Piece) InField
-form_of p =
+abbrev pub form_from : Piece → Result (Form Piece) InField
+form_from p =
     cond (length p.text == 0) (Err (record { field = p.place; fault = NoForm 0 }))
     (in_field p.place (λ f. f) (read_form p.text))
 
 abbrev pub form_field : Field (Form Piece)
-form_field = text_field form_of
+form_field = text_field form_from
 
 -- a byte that is 0 or 1
 abbrev pub switch_at : ℕ → ℕ → Field Bool
@@ -116,13 +116,10 @@ abbrev pub switch_field : Field Bool
 switch_field v = and_then byte_field (switch_at v.place) v
 
 -- 0 normal, 1 build, 2 dev
-abbrev pub edge_of : ℕ → Option Edge
-edge_of b = cond (b == 0) (Some Normal) (cond (b == 1) (Some Build) (cond (b == 2) (Some Dev) None))
-
-abbrev pub edge_at : ℕ → ℕ → Field Edge
+abbrev pub edge_at : ℕ → ℕ → Field EdgeKind
 edge_at at b v = cond (b == 0) (Ok (Normal, v)) (cond (b == 1) (Ok (Build, v)) (cond (b == 2) (Ok (Dev, v)) (Err (Mark at))))
 
-abbrev pub edge_field : Field Edge
+abbrev pub edge_field : Field EdgeKind
 edge_field v = and_then byte_field (edge_at v.place) v
 
 -- no byte is left over
@@ -141,9 +138,9 @@ abbrev pub header_field : Field (Unit {0})
 header_field v = and_then word_field (version_at v.place) v
 
 -- a result with another value in the place of its own; a field whose value is dropped
-abbrev pub labelled : {A B : Type 0} → B → Result (A × View) RecordFault → Result (B × View) RecordFault
-labelled b (Ok p) = Ok (b, p.1)
-labelled b (Err e) = Err e
+abbrev pub with_value : {A B : Type 0} → B → Result (A × View) RecordFault → Result (B × View) RecordFault
+with_value b (Ok p) = Ok (b, p.1)
+with_value b (Err e) = Err e
 
 abbrev pub void : {A : Type 0} → Field A → Field (Unit {0})
-void m v = labelled tt (m v)
+void m v = with_value tt (m v)

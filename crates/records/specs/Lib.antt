@@ -3,4 +3,3 @@ pub mod Encoding
 pub mod Frames
 pub mod Fields
 pub mod Bodies
-pub mod Lanes

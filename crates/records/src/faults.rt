@@ -2,7 +2,7 @@
 ghost use Rattle.std.specs.Prelude.{◌≡◌};
 ghost use Rattle.records.specs.declared.faults.RecordFault.TheVariants.{Text};
 
-use text::faults::StringFault;
+use text::StringFault;
 
 // The fault of a string, and the place of its first byte in the record.
 #[derive(Clone, Copy, PartialEq, Eq, Debug)]

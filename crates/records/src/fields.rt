@@ -1,22 +1,20 @@
 // The fields of a record, in the order in which they are read.
 ghost use Rattle.std.specs.Prelude.{◌≡◌, Result, IfOk};
 ghost use Rattle.text.specs.Forms.{Form, Piece};
-ghost use Rattle.text.specs.Views.{mapped, piece, form};
+ghost use Rattle.text.specs.Views.{map_ok, piece, form};
 ghost use Rattle.records.specs.declared.faults.InField.{InField};
-ghost use Rattle.records.specs.Fields.{view, outcome, outcome_by, bytes_field, byte_field, word_field, string_field, text_field, name_of, name_field, form_of, switch_field, edge_field, closed_field, void, header_field};
+ghost use Rattle.records.specs.Fields.{view, outcome, outcome_by, bytes_field, byte_field, word_field, string_field, text_field, name_from, name_field, form_from, switch_field, edge_field, closed_field, void, header_field};
 ghost use Rattle.records.specs.Bodies.{texts, forms, Full, many, list_field, names_field, forms_field, values_field, package_view, package_field, package_name_at, dependency_view, dependency_field, dependency_name_at};
 
-use crate::bodies::{Dependency, Edge, Package};
+use crate::bodies::{Dependency, Package};
 use crate::faults::{InField, RecordFault};
 use crate::reader::Reader;
 use crate::strings::Strings;
-use text::faults::StringFault;
-use text::names::read_name;
-use text::parts::{FeatureString, Part};
-use text::strings::read_feature_string;
+use lanes::EdgeKind;
+use text::{FeatureString, Piece, StringFault, read_feature_string, read_name};
 
 // What a string of a record is read as.
-trait Text<'a>: Copy {
+trait FromPiece<'a>: Copy {
     // a reading, with the bytes in the place of what refers to them
     ghost Seen: { Type 0 };
 
@@ -25,19 +23,19 @@ trait Text<'a>: Copy {
     ghost reading: { Piece → Result Seen InField };
 
     // A part of a record, if it is such a string.
-    fn read(text: Part<'a>) -> Result<Self, InField>
-        ensures { mapped seen result ≡ reading (piece text.entry) };
+    fn read(text: Piece<'a>) -> Result<Self, InField>
+        ensures { map_ok seen result ≡ reading (piece text.entry) };
 }
 
 // A name.
-impl<'a> Text<'a> for Part<'a> {
+impl<'a> FromPiece<'a> for Piece<'a> {
     ghost Seen = { Piece };
 
     ghost seen = { piece };
 
-    ghost reading = { name_of };
+    ghost reading = { name_from };
 
-    fn read(text: Part<'a>) -> Result<Part<'a>, InField> {
+    fn read(text: Piece<'a>) -> Result<Piece<'a>, InField> {
         let field = text.at;
         read_name(text.bytes).map_err(|fault| InField { field, fault })?;
         Ok(text)
@@ -45,14 +43,14 @@ impl<'a> Text<'a> for Part<'a> {
 }
 
 // A feature string.
-impl<'a> Text<'a> for FeatureString<'a> {
+impl<'a> FromPiece<'a> for FeatureString<'a> {
     ghost Seen = { Form Piece };
 
     ghost seen = { form };
 
-    ghost reading = { form_of };
+    ghost reading = { form_from };
 
-    fn read(text: Part<'a>) -> Result<FeatureString<'a>, InField> {
+    fn read(text: Piece<'a>) -> Result<FeatureString<'a>, InField> {
         let field = text.at;
         if text.bytes.is_empty() {
             let fault = StringFault::NoForm { prefix: 0 };
@@ -98,7 +96,7 @@ impl<'a> Reader<'a> {
     }
 
     // A string: one length byte, and that many bytes.
-    fn string(&mut self) -> Result<Part<'a>, RecordFault>
+    fn string(&mut self) -> Result<Piece<'a>, RecordFault>
         ensures { outcome_by piece result (view self.new) ≡ string_field (view self.old) }
     {
         let field = self.at;
@@ -109,18 +107,18 @@ impl<'a> Reader<'a> {
             .ok_or(RecordFault::Ragged { field })?;
         let at = self.at;
         *self = Reader { rest, at: at + n };
-        Ok(Part { at, bytes })
+        Ok(Piece { at, bytes })
     }
 
     // A string that is read as a `T`.
-    fn text<T: Text<'a>>(&mut self) -> Result<T, RecordFault>
+    fn text<T: FromPiece<'a>>(&mut self) -> Result<T, RecordFault>
         ensures { outcome_by T.seen result (view self.new) ≡ text_field T.reading (view self.old) }
     {
         Ok(T::read(self.string()?)?)
     }
 
     // A string that is a name.
-    pub fn name(&mut self) -> Result<Part<'a>, RecordFault>
+    pub fn name(&mut self) -> Result<Piece<'a>, RecordFault>
         ensures { outcome_by piece result (view self.new) ≡ name_field (view self.old) }
     {
         self.text()
@@ -140,11 +138,11 @@ impl<'a> Reader<'a> {
     }
 
     // An edge kind.
-    fn edge(&mut self) -> Result<Edge, RecordFault>
+    fn edge(&mut self) -> Result<EdgeKind, RecordFault>
         ensures { outcome result (view self.new) ≡ edge_field (view self.old) }
     {
         let field = self.at;
-        Edge::try_from(self.byte()?).map_err(|_| RecordFault::Mark { field })
+        EdgeKind::try_from(self.byte()?).map_err(|_| RecordFault::Mark { field })
     }
 
     // The record ends here.
@@ -160,7 +158,7 @@ impl<'a> Reader<'a> {
     }
 
     // So many strings that are each read as a `T`.
-    fn each<T: Text<'a>>(&mut self, count: u8) -> Result<(), RecordFault>
+    fn each<T: FromPiece<'a>>(&mut self, count: u8) -> Result<(), RecordFault>
         ensures { outcome result (view self.new) ≡ void (many (text_field T.reading) count) (view self.old) }
     {
         for _i in 0..count {
@@ -170,7 +168,7 @@ impl<'a> Reader<'a> {
     }
 
     // A count byte, and that many strings that are each read as a `T`.
-    fn list<T: Text<'a>>(&mut self) -> Result<Strings<'a>, RecordFault>
+    fn list<T: FromPiece<'a>>(&mut self) -> Result<Strings<'a>, RecordFault>
         ensures value { outcome_by texts result (view self.new) ≡ list_field (text_field T.reading) (view self.old) }
         ensures full { IfOk result Full }
     {
@@ -185,7 +183,7 @@ impl<'a> Reader<'a> {
         ensures value { outcome_by texts result (view self.new) ≡ names_field (view self.old) }
         ensures full { IfOk result Full }
     {
-        self.list::<Part>()
+        self.list::<Piece>()
     }
 
     // A count byte, and that many feature strings.

@@ -1,6 +1,6 @@
 // A file cut into records.
 ghost use Rattle.std.specs.Prelude.{◌≡◌, ok_or};
-ghost use Rattle.text.specs.Views.{mapped};
+ghost use Rattle.text.specs.Views.{map_ok};
 ghost use Rattle.records.specs.declared.faults.RecordFault.TheVariants.{Stray};
 ghost use Rattle.records.specs.Frames.{kind_at, frame, frame_of};
 
@@ -44,7 +44,7 @@ pub struct Frame<'a> {
 
 // The record at the front of some bytes.
 pub fn first_frame<'a>(bytes: &'a [u8]) -> Result<Frame<'a>, RecordFault>
-    ensures { mapped frame result ≡ frame_of bytes.now }
+    ensures { map_ok frame result ≡ frame_of bytes.now }
 {
     let (length, rest) = bytes.split_first_chunk::<4>().ok_or(RecordFault::Cut)?;
     let length = u32::from_le_bytes(*length) as usize;

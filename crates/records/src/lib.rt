@@ -1,11 +1,16 @@
-// Records: the pieces that a graph file is made of, and the reading of their fields.
+//! Records: the pieces that a graph file is made of, and the reading of their fields.
 
 #![tactic(auto)]
 
-pub mod bodies;
-pub mod faults;
-pub mod fields;
-pub mod frames;
-pub mod lanes;
-pub mod reader;
-pub mod strings;
+mod bodies;
+mod faults;
+mod fields;
+mod frames;
+mod reader;
+mod strings;
+
+pub use bodies::{Dependency, Feature, Package};
+pub use faults::{InField, RecordFault};
+pub use frames::{Frame, Kind, first_frame};
+pub use reader::Reader;
+pub use strings::Strings;

@@ -3,5 +3,5 @@ pub mod PartRules
 pub mod PartAgrees
 pub mod PartKept
 pub mod PartsWorked
-pub mod Replaying
+pub mod CallLists
 pub mod WorkedTable

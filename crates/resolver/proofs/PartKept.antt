@@ -1,16 +1,16 @@
 -- The law of closed target parts.
 use Rattle.std.proofs.Common.{◌≡◌, ℕ, ◌<◌, ◌≤◌, ◌≢◌, Bool, true, false, T, ◌⊎◌, List, Some, None, Option, sym, refl, ap, ◌∙◌, subst, inl, inr, ⊎_elim, arith, option_map}
 use Rattle.std.proofs.lemmas.Bool.{cases_lt}
-use Rattle.records.specs.declared.lanes.Lane.{Lane}
+use Rattle.lanes.specs.declared.lane_numbers.Lane.{Lane}
 use Rattle.records.specs.Graphs.{Graph}
 use Rattle.graph.specs.Opening.{over}
-use Rattle.graph.specs.OpeningLaw.{Resolved, Stands}
+use Rattle.graph.specs.OpeningLaw.{Resolved, IsRuleOf}
 use Rattle.graph.specs.Places.{Item, number, item_count}
 use Rattle.graph.specs.Rules.{Rule, graph_words}
-use Rattle.policy.specs.declared.sides.Side.{Side}
-use Rattle.policy.specs.declared.sides.Side.TheVariants.{Target, Host}
-use Rattle.policy.specs.Answers.{Answers, Lawful}
-use Rattle.rulebook.specs.declared.entries.Entry.{Entry}
+use Rattle.lanes.specs.declared.sides.Side.{Side}
+use Rattle.lanes.specs.declared.sides.Side.TheVariants.{Target, Host}
+use Rattle.policy.specs.Answers.{Answers, LawfulAnswers}
+use Rattle.rulebook.specs.declared.entries.WatchEntry.{WatchEntry}
 use Rattle.rulebook.specs.Tables.{Table, Laws, Among}
 use Rattle.rulebook.specs.GraphTable.{landing, row_lead}
 use Rattle.rulebook.specs.GraphRules.{Has, number_on, Leads, TableOf}
@@ -32,7 +32,7 @@ host-landing cross None n h = let z : ◌≡◌ {A = ℕ} 0 1 = cc in omega arit
 host-landing false (Some s) n h = let z : ◌≡◌ {A = ℕ} 0 1 = cc in omega arith
 host-landing true (Some s) n h = n h
 
-host-stays : (answers : Answers) → Lawful answers → (cross : Bool) (lane : Option Lane) → landing Host cross (row_lead answers Host lane) ≡ Some Target → ⊥
+host-stays : (answers : Answers) → LawfulAnswers answers → (cross : Bool) (lane : Option Lane) → landing Host cross (row_lead answers Host lane) ≡ Some Target → ⊥
 host-stays answers lawful cross None = host-landing cross (Some Host) (λ h. let z : ◌≡◌ {A = ℕ} 0 1 = cc in omega arith)
 host-stays answers lawful cross (Some l) = host-landing cross (answers l Host) (lawful l)
 
@@ -44,7 +44,7 @@ among-held : (P : ℕ → Type 0) (f : Item → ℕ) (m : Option Item) → Held 
 among-held P f None h = tt
 among-held P f (Some x) h = h
 
-module _ (answers : Answers) (lawful : Lawful answers) (S : ℕ → Bool) (g h : Graph) (resolved : Resolved g) (agree : Agree answers S g h)
+module _ (answers : Answers) (lawful : LawfulAnswers answers) (S : ℕ → Bool) (g h : Graph) (resolved : Resolved g) (agree : Agree answers S g h)
     (t u : Table) (of : TableOf answers g t) (other : TableOf answers h u) where
   -- the package of an item is in S, and Y has its number in h
   abbrev Shared : (ℕ → Bool) → Item → Type 0
@@ -83,41 +83,41 @@ module _ (answers : Answers) (lawful : Lawful answers) (S : ℕ → Bool) (g h :
     kept-mate (Some x) has kept = (kept-item x has kept).1
 
     -- a rule of g from the target to the target is one of h, which Y keeps
-    kept-rule : Closed u (λ j. T (Y j)) → (ρ : Rule) → Stands g ρ → Leads answers Target ρ Target →
-        Kept Y (target_number g ρ.from) → Held (λ x. Kept Y (target_number g x)) ρ.mate → Has g ρ.to × Shared Y ρ.to
-    kept-rule closed ρ stands leads from mate =
-        let there = sane g resolved ρ stands in
+    kept-rule : Closed u (λ j. T (Y j)) → (ρ : Rule) → IsRuleOf g ρ → Leads answers Target ρ Target →
+        Kept Y (target_number g ρ.from) → Held (λ x. Kept Y (target_number g x)) ρ.with → Has g ρ.to × Shared Y ρ.to
+    kept-rule closed ρ is_rule leads from with =
+        let there = sane g resolved ρ is_rule in
         let (s, y) = kept-item ρ.from there.from from in
-        let c = carry answers S g h agree ρ stands leads s in
-        let entry : Entry = record { partner = option_map (target_number h) ρ.mate; conclusion = target_number h ρ.to } in
+        let c = carry answers S g h agree ρ is_rule leads s in
+        let entry : WatchEntry = record { partner = option_map (target_number h) ρ.with; conclusion = target_number h ρ.to } in
         let (r, q) = other.complete (target_number h ρ.from) entry (record {
           side = Target;
           goal = Target;
-          rule = record { from = ρ.from; mate = ρ.mate; to = ρ.to; lane = c.lane; cross = ρ.cross };
-          stands = c.stands;
+          rule = record { from = ρ.from; with = ρ.with; to = ρ.to; lane = c.lane; cross = ρ.cross };
+          is_rule = c.is_rule;
           leads = ap (landing Target ρ.cross) (sym c.same) ∙ leads;
           conclusion = refl;
           premises = inl (refl, refl);
         }) in (
           there.to,
-          (c.within, closed (target_number h ρ.from) r entry q y (among-held (λ j. T (Y j)) (target_number h) ρ.mate (kept-mate ρ.mate there.mate mate))),
+          (c.within, closed (target_number h ρ.from) r entry q y (among-held (λ j. T (Y j)) (target_number h) ρ.with (kept-mate ρ.with there.with with))),
         )
 
     kept-closed : Closed u (λ j. T (Y j)) → Closed t (Kept Y)
     kept-closed closed i r e q here partner low =
         let w = of.sound i r e q in
-        go w.side w.goal w.rule w.stands w.leads w.conclusion w.premises
+        go w.side w.goal w.rule w.is_rule w.leads w.conclusion w.premises
       where
-        go : (side goal : Side) (ρ : Rule) → Stands g ρ → Leads answers side ρ goal → e.conclusion ≡ number_on g goal ρ.to →
-            ((i ≡ number_on g side ρ.from) × (e.partner ≡ option_map (number_on g side) ρ.mate))
-            ⊎ ((x : Item) × (ρ.mate ≡ Some x) × (i ≡ number_on g side x) × (e.partner ≡ Some (number_on g side ρ.from))) →
+        go : (side goal : Side) (ρ : Rule) → IsRuleOf g ρ → Leads answers side ρ goal → e.conclusion ≡ number_on g goal ρ.to →
+            ((i ≡ number_on g side ρ.from) × (e.partner ≡ option_map (number_on g side) ρ.with))
+            ⊎ ((x : Item) × (ρ.with ≡ Some x) × (i ≡ number_on g side x) × (e.partner ≡ Some (number_on g side ρ.from))) →
             (x : Item) × Has g x × (target_number g x ≡ e.conclusion) × Shared Y x
-        go side Host ρ stands leads c p = absurd (omega (arith, c, low))
-        go Host Target ρ stands leads c p = absurd (host-stays answers lawful ρ.cross ρ.lane leads)
-        go Target Target ρ stands leads c p =
+        go side Host ρ is_rule leads c p = absurd (omega (arith, c, low))
+        go Host Target ρ is_rule leads c p = absurd (host-stays answers lawful ρ.cross ρ.lane leads)
+        go Target Target ρ is_rule leads c p =
             let (has, shared) = ⊎_elim
-            (λ z. kept-rule closed ρ stands leads (subst (Kept Y) z.0 here) (held-among (Kept Y) (target_number g) ρ.mate (subst (Among (Kept Y)) z.1 partner)))
-            (λ z. kept-rule closed ρ stands leads (subst (Among (Kept Y)) z.3 partner)
+            (λ z. kept-rule closed ρ is_rule leads (subst (Kept Y) z.0 here) (held-among (Kept Y) (target_number g) ρ.with (subst (Among (Kept Y)) z.1 partner)))
+            (λ z. kept-rule closed ρ is_rule leads (subst (Among (Kept Y)) z.3 partner)
             (subst (Held (λ x. Kept Y (target_number g x))) (sym z.1) (subst (Kept Y) z.2 here)))
             p in
             (ρ.to, has, sym c, shared)
@@ -134,7 +134,7 @@ module _ (answers : Answers) (lawful : Lawful answers) (S : ℕ → Bool) (g h :
       (law.sound (target_number g x) active))
 
 -- for two sessions that keep the law of sessions
-pub part-kept : (answers : Answers) (S : ℕ → Bool) (g h : Graph) (t u : Table) → Lawful answers → Resolved g → Resolved h →
+pub part-kept : (answers : Answers) (S : ℕ → Bool) (g h : Graph) (t u : Table) → LawfulAnswers answers → Resolved g → Resolved h →
     Agree answers S g h → TableOf answers g t → TableOf answers h u →
     (m n : ℕ) (calls others : List Call) → SessionLaw t m calls → SessionLaw u n others → PartKept S g h (history t m calls) (history u n others)
 part-kept answers S g h t u lawful resolved also agree of other m n calls others law second same first last = record {
@@ -146,7 +146,7 @@ part-kept answers S g h t u lawful resolved also agree of other m n calls others
 -- given the law of sessions
 module _ (law : (t : Table) → Laws t → (n : ℕ) (calls : List Call) → SessionLaw t n calls) where
   -- for any tables that are those of the graphs
-  part-law : (answers : Answers) (S : ℕ → Bool) (g h : Graph) (t u : Table) → Lawful answers → Resolved g → Resolved h →
+  part-law : (answers : Answers) (S : ℕ → Bool) (g h : Graph) (t u : Table) → LawfulAnswers answers → Resolved g → Resolved h →
       Agree answers S g h → Laws t → Laws u → TableOf answers g t → TableOf answers h u →
       (m n : ℕ) (calls others : List Call) → PartKept S g h (history t m calls) (history u n others)
   part-law answers S g h t u lawful resolved also agree first second of other m n calls others =

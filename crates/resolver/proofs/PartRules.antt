@@ -1,15 +1,15 @@
 -- A rule of a package of the part, from the target to the target, stands in both graphs.
 use Rattle.std.proofs.Common.{◌≡◌, ℕ, ◌<◌, ◌≤◌, Bool, true, T, List, length, get_or, Some, None, Option, codes, sym, refl, ap, ◌∙◌, subst, ⊎_elim, arith}
 use Rattle.std.proofs.lemmas.Bool.{cases_lt}
-use Rattle.records.specs.declared.lanes.Lane.{Lane}
+use Rattle.lanes.specs.declared.lane_numbers.Lane.{Lane}
 use Rattle.records.specs.Graphs.{Dependency, Feature, Graph}
 use Rattle.graph.specs.Law.{features_in}
-use Rattle.graph.specs.OpeningLaw.{DependencyAt, FeatureAt, NamedAt, Stands, needs, builds, defaults, asks, plainly, switches, joins, In}
+use Rattle.graph.specs.OpeningLaw.{DependencyAt, FeatureAt, NamedAt, IsRuleOf, needs, builds, defaults, asks, plainly, switches, joins, In}
 use Rattle.graph.specs.Places.{Item, unit, dep, feat, dependencies_of, features_of, no_dependency, no_feature}
 use Rattle.graph.specs.Rules.{Rule, lane_of}
 use Rattle.graph.proofs.Befores.{nothing-beyond}
-use Rattle.policy.specs.declared.sides.Side.{Side}
-use Rattle.policy.specs.declared.sides.Side.TheVariants.{Target}
+use Rattle.lanes.specs.declared.sides.Side.{Side}
+use Rattle.lanes.specs.declared.sides.Side.TheVariants.{Target}
 use Rattle.policy.specs.Answers.{Answers}
 use Rattle.rulebook.specs.GraphTable.{landing, row_lead}
 use Rattle.rulebook.specs.GraphRules.{Leads}
@@ -32,7 +32,7 @@ module _ (answers : Answers) (S : ℕ → Bool) (g h : Graph) (agree : Agree ans
   -- a rule of g is one of h, with a lane that leads from the target where its own does; its conclusion is of the part
   pub record Carried (ρ : Rule) : Type 0 where
     pub lane : Option Lane
-    pub stands : Stands h (record { from = ρ.from; mate = ρ.mate; to = ρ.to; lane = lane; cross = ρ.cross })
+    pub is_rule : IsRuleOf h (record { from = ρ.from; with = ρ.with; to = ρ.to; lane = lane; cross = ρ.cross })
     pub same : row_lead answers Target ρ.lane ≡ row_lead answers Target lane
     pub within : T (S (package_of ρ.to))
 
@@ -56,24 +56,24 @@ module _ (answers : Answers) (S : ℕ → Bool) (g h : Graph) (agree : Agree ans
   end-name d e k n q s named = subst (λ p. NamedAt h p k n) q (same-name d.end k n s named)
 
   -- a rule that leads over dependency d to an item of its end
-  over : (d e : Dependency) → DependenciesAgree answers S g h d e → (from : Item) (mate : Option Item) (to : ℕ → Item) → ((q : ℕ) → package_of (to q) ≡ q) →
-      Leads answers Target (record { from = from; mate = mate; to = to d.end; lane = Some (lane_of g d); cross = true }) Target →
+  over : (d e : Dependency) → DependenciesAgree answers S g h d e → (from : Item) (with : Option Item) (to : ℕ → Item) → ((q : ℕ) → package_of (to q) ≡ q) →
+      Leads answers Target (record { from = from; with = with; to = to d.end; lane = Some (lane_of g d); cross = true }) Target →
       ((d.end ≡ e.end) × (d.asks ≡ e.asks) × (d.defaults ≡ e.defaults) × T (S d.end) →
-      Stands h (record { from = from; mate = mate; to = to e.end; lane = Some (lane_of h e); cross = true })) →
-      Carried (record { from = from; mate = mate; to = to d.end; lane = Some (lane_of g d); cross = true })
-  over d e a from mate to owned leads stands =
+      IsRuleOf h (record { from = from; with = with; to = to e.end; lane = Some (lane_of h e); cross = true })) →
+      Carried (record { from = from; with = with; to = to d.end; lane = Some (lane_of g d); cross = true })
+  over d e a from with to owned leads is_rule =
       let (end, ask, by_default, t) = a.target (crossed (answers (lane_of g d) Target) leads) in
       record {
         lane = Some (lane_of h e);
-        stands = subst (λ q. Stands h (record { from = from; mate = mate; to = to q; lane = Some (lane_of h e); cross = true })) (sym end) (stands (end, ask, by_default, t));
+        is_rule = subst (λ q. IsRuleOf h (record { from = from; with = with; to = to q; lane = Some (lane_of h e); cross = true })) (sym end) (is_rule (end, ask, by_default, t));
         same = a.answer;
         within = subst (λ q. T (S q)) (sym (owned d.end)) t;
       }
 
-  pub carry : (ρ : Rule) → Stands g ρ → Leads answers Target ρ Target → T (S (package_of ρ.from)) → Carried ρ
+  pub carry : (ρ : Rule) → IsRuleOf g ρ → Leads answers Target ρ Target → T (S (package_of ρ.from)) → Carried ρ
   carry ρ (needs {p} {k} {d} at o) leads s =
       let (e, there, a) = other p k d s at in
-      record { lane = Some (lane_of h e); stands = needs there (sym a.optional ∙ o); same = a.answer; within = s }
+      record { lane = Some (lane_of h e); is_rule = needs there (sym a.optional ∙ o); same = a.answer; within = s }
   carry ρ (builds {p} {k} {d} at) leads s =
       let (e, there, a) = other p k d s at in
       over d e a (dep p k) None unit (λ q. refl) leads (λ z. builds there)
@@ -84,10 +84,10 @@ module _ (answers : Answers) (S : ℕ → Bool) (g h : Graph) (agree : Agree ans
       let (e, there, a) = other p k d s at in
       over d e a (dep p k) None (λ q. feat q j) (λ q. refl) leads (λ z. asks there (subst (In n) z.1 i) (end-name d e j n z.0 z.3 m))
   carry ρ (plainly {p} {j} {i} {f} {n} at v m) leads s =
-      record { lane = None; stands = plainly (same-feature p j f s at) v (same-name p i n s m); same = refl; within = s }
+      record { lane = None; is_rule = plainly (same-feature p j f s at) v (same-name p i n s m); same = refl; within = s }
   carry ρ (switches {p} {j} {k} {f} {d} {n} at v dat q o) leads s =
       let (e, there, a) = other p k d s dat in
-      record { lane = Some (lane_of h e); stands = switches (same-feature p j f s at) v there (sym a.name ∙ q) (sym a.optional ∙ o); same = a.answer; within = s }
+      record { lane = Some (lane_of h e); is_rule = switches (same-feature p j f s at) v there (sym a.name ∙ q) (sym a.optional ∙ o); same = a.answer; within = s }
   carry ρ (joins {p} {j} {k} {i} {f} {d} {n} {x} at v dat q m) leads s =
       let (e, there, a) = other p k d s dat in
       over d e a (feat p j) (Some (dep p k)) (λ r. feat r i) (λ r. refl) leads (λ z. joins (same-feature p j f s at) v there (sym a.name ∙ q) (end-name d e i x z.0 z.3 m))

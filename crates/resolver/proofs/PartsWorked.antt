@@ -3,8 +3,8 @@ use Rattle.std.proofs.Common.{◌≡◌, ℕ, zero, suc, ◌<◌, T, get_or, Som
 use Rattle.records.specs.Graphs.{Dependency}
 use Rattle.graph.specs.Examples.{example}
 use Rattle.graph.specs.Places.{dependencies_of, no_dependency}
-use Rattle.policy.specs.declared.sides.Side.{Side}
-use Rattle.policy.specs.declared.sides.Side.TheVariants.{Target, Host}
+use Rattle.lanes.specs.declared.sides.Side.{Side}
+use Rattle.lanes.specs.declared.sides.Side.TheVariants.{Target, Host}
 use Rattle.policy.specs.Answers.{host_split}
 use Rattle.resolver.specs.Parts.{DependenciesAgree, PackagesAgree}
 use Rattle.resolver.specs.PartExamples.{changed, app_and_core, PartExamples}

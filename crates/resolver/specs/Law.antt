@@ -4,7 +4,7 @@ use Rattle.rulebook.specs.Tables.{Table}
 use Rattle.session.specs.declared.calls.Answer.{Answer}
 use Rattle.session.specs.declared.calls.SessionFault.{SessionFault}
 use Rattle.session.specs.declared.calls.SessionFault.TheVariants as fault
-use Rattle.session.specs.Histories.{Call, answers_from, left_by_all, history, Chooser, chosen}
+use Rattle.session.specs.Histories.{Call, answers_from, calls_leave, history, Chooser, first_calls}
 use Rattle.session.specs.SessionLaw.{SessionLaw}
 use Rattle.session.specs.States.{State, empty}
 
@@ -13,7 +13,7 @@ pub record Law (t : Table) (n : ℕ) (calls : List Call) : Type 0 where
   -- after the first k of them, for every k, and so after each of them and after all,
   pub each : (k : ℕ) → SessionLaw t n (take k calls)
   -- and after calls that are each chosen in view of the earlier answers
-  pub chosen : (choose : Chooser) (k : ℕ) → SessionLaw t n (chosen t n choose k)
+  pub first_calls : (choose : Chooser) (k : ℕ) → SessionLaw t n (first_calls t n choose k)
 
 -- whether there is a place for each answer
 abbrev pub check_answers : ℕ → ℕ → Result (Unit {0}) SessionFault
@@ -21,7 +21,7 @@ check_answers calls places = cond (nat_le calls places) (Ok tt) (Err fault.Memor
 
 -- what a list of calls leaves, unless it is refused for want of places
 abbrev pub left_unless : Table → State → List Call → Result (Unit {0}) SessionFault → State
-left_unless t s calls (Ok u) = left_by_all t s calls
+left_unless t s calls (Ok u) = calls_leave t s calls
 left_unless t s calls (Err e) = s
 
 -- and what the places for the answers then hold

@@ -1,6 +1,6 @@
 -- A worked example of a closed target part: it is closed under host-split, and not under unified.
 use Rattle.std.specs.Prelude.{ℕ, Bool, false, [], ◌∷◌, codes, nat_lt}
-use Rattle.records.specs.declared.bodies.Edge.TheVariants.{Normal}
+use Rattle.lanes.specs.declared.edge_kinds.EdgeKind.TheVariants.{Normal}
 use Rattle.records.specs.Graphs.{dependency, Package, Graph}
 use Rattle.graph.specs.Examples.{app, core, example}
 use Rattle.policy.specs.Answers.{unified, host_split}
@@ -11,7 +11,7 @@ abbrev pub plain_gen : Package
 plain_gen = record {
   proc = false;
   name = codes "gen";
-  parts = dependency (record { end = 1; edge = Normal; optional = false; defaults = false; name = codes "core"; asks = [] }) ∷ [];
+  declarations = dependency (record { end = 1; edge = Normal; optional = false; defaults = false; name = codes "core"; asks = [] }) ∷ [];
 }
 
 abbrev pub changed : Graph

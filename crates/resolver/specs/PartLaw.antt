@@ -5,8 +5,8 @@ use Rattle.graph.specs.Opening.{over}
 use Rattle.graph.specs.OpeningLaw.{Opens}
 use Rattle.graph.specs.Places.{Item, unit, dep, feat, item_count}
 use Rattle.graph.specs.Rules.{graph_words}
-use Rattle.policy.specs.declared.sides.Side.TheVariants.{Target}
-use Rattle.policy.specs.Answers.{Answers, Lawful}
+use Rattle.lanes.specs.declared.sides.Side.TheVariants.{Target}
+use Rattle.policy.specs.Answers.{Answers, LawfulAnswers}
 use Rattle.rulebook.specs.GraphTable.{graph_table}
 use Rattle.rulebook.specs.GraphRules.{Has, number_on}
 use Rattle.session.specs.Least.{OneOf}
@@ -49,7 +49,7 @@ PartKept S g h a b = SameAsked S g h a b → T a.settled → T b.settled → Sam
 -- wrote, under the same lawful answers, after any calls on a new session by each book
 abbrev pub OpenedPartLaw : Type 0
 OpenedPartLaw =
-    (answers : Answers) (S : ℕ → Bool) (g h : Graph) (file words other more : List ℕ) → Lawful answers →
+    (answers : Answers) (S : ℕ → Bool) (g h : Graph) (file words other more : List ℕ) → LawfulAnswers answers →
     Opens file words g → Opens other more h → Agree answers S g h →
     (m n : ℕ) (calls others : List Call) →
     PartKept S g h (history (graph_table answers (over (graph_words g) words)) m calls) (history (graph_table answers (over (graph_words h) more)) n others)

@@ -5,7 +5,7 @@ use Rattle.records.specs.Graphs.{Dependency, Graph}
 use Rattle.graph.specs.OpeningLaw.{DependencyAt}
 use Rattle.graph.specs.Places.{dependencies_of, features_of, proc_of}
 use Rattle.graph.specs.Rules.{lane_of}
-use Rattle.policy.specs.declared.sides.Side.TheVariants.{Target}
+use Rattle.lanes.specs.declared.sides.Side.TheVariants.{Target}
 use Rattle.policy.specs.Answers.{Answers}
 
 -- the name of package p

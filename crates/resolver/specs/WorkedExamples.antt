@@ -3,7 +3,7 @@ use Rattle.std.specs.Prelude.{◌≡◌, ℕ, true, false, List, [], ◌∷◌, 
 use Rattle.text.specs.Examples as text
 use Rattle.graph.specs.Examples as graph
 use Rattle.graph.specs.Examples.{example_words}
-use Rattle.graph.specs.Refusals.{of_file}
+use Rattle.refusals.specs.Bytes.{about_no_record}
 use Rattle.policy.specs.Answers.{host_split}
 use Rattle.rulebook.specs.Tables.{Table}
 use Rattle.rulebook.specs.GraphTable.{graph_table}
@@ -14,7 +14,7 @@ use Rattle.session.specs.declared.calls.Answer.{Answer}
 use Rattle.session.specs.declared.calls.Answer.TheVariants as answer
 use Rattle.session.specs.Causes.{Because}
 use Rattle.session.specs.Refusals.{session_refusal}
-use Rattle.session.specs.States.{State, opened, requested, settle_run, request_answer, settle_answer}
+use Rattle.session.specs.States.{State, open_session, request_all, settle_run, request_answer, settle_answer}
 use Rattle.session.specs.Histories.{Call, request, settle, answers_from, History, history}
 use Rattle.session.specs.SessionLaw.{sum_active, watch_entries}
 use Rattle.resolver.specs.PartExamples.{PartExamples}
@@ -25,14 +25,14 @@ example_table = graph_table host_split example_words
 
 -- a new session of 20 items, in memory for as many
 abbrev pub new_session : State
-new_session = opened 20 20 20
+new_session = open_session 20 20 20
 
 -- app, and the feature default of app, on the target
 abbrev pub example_items : List ℕ
 example_items = 0 ∷ 6 ∷ []
 
 abbrev pub example_asked : State
-example_asked = requested example_items new_session
+example_asked = request_all example_items new_session
 
 -- trail records: an item without causes, with one, and with two
 abbrev pub asked : ℕ → TrailRecord
@@ -70,7 +70,7 @@ abbrev pub example_calls : List Call
 example_calls = request example_items ∷ settle 3 ∷ settle 7 ∷ settle 1 ∷ []
 
 abbrev pub example_answers : List Answer
-example_answers = answer.Requested (Ok tt) ∷ answer.Settled (Ok Pending) ∷ answer.Settled (Ok Pending) ∷ answer.Settled (Ok (Settled 1)) ∷ []
+example_answers = answer.Request (Ok tt) ∷ answer.Settle (Ok Pending) ∷ answer.Settle (Ok Pending) ∷ answer.Settle (Ok (Settled 1)) ∷ []
 
 abbrev pub example_history : History
 example_history = history example_table 20 example_calls
@@ -104,5 +104,5 @@ pub record WorkedExamples : Type 0 where
   pub again : (history example_table 20 (example_calls ++ request [] ∷ [])).settled ≡ false
   -- a request beyond the items is refused, by number 10, one of the last item is not
   pub beyond : request_answer new_session (20 ∷ []) ≡ Err Item
-  pub number : session_refusal Item ≡ of_file 10
+  pub number : session_refusal Item ≡ about_no_record 10
   pub last : request_answer new_session (19 ∷ []) ≡ Ok tt

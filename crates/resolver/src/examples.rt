@@ -6,16 +6,11 @@ ghost use Rattle.session.specs.Held.{trail_of, state};
 ghost use Rattle.session.specs.States.{settle_run};
 ghost use Rattle.resolver.specs.WorkedExamples.{active_count, example_table, new_session, example_asked, WorkedExamples};
 
-use graph::examples::EXAMPLE;
-use graph::opening::open_graph;
-use graph::refusals::Refusal;
-use graph::rows::Opened;
-use policy::host_split::HostSplit;
-use rulebook::book::Rulebook;
-use rulebook::graph_book::GraphBook;
-use session::calls::{Outcome, Reason, SessionFault};
-use session::session::Session;
-use session::trail::UNUSED;
+use graph::{EXAMPLE, Opened, open_graph};
+use policy::HostSplit;
+use refusals::Refusal;
+use rulebook::{GraphBook, Rulebook};
+use session::{Outcome, Reason, Session, SessionFault, UNUSED};
 
 // What opening the example file answers.
 const OPENED: Opened = Opened {
@@ -154,7 +149,7 @@ pub fn worked_examples() -> bool
     let mut words = [0; 54];
     let opened = opens(&mut words);
     let book = GraphBook::new(&words[..], &HostSplit);
-    text::examples::worked_examples()
+    text::worked_examples()
         && opened
         && book.items() == ITEMS
         && book.rows() == OPENED.rows

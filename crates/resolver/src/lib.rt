@@ -1,6 +1,9 @@
-// What sessions by different rulebooks have in common, and the worked examples of all layers.
+//! Lists of calls on a session, with the law of sessions; and the worked examples of all layers.
 
 #![tactic(auto)]
 
-pub mod examples;
-pub mod replays;
+mod call_lists;
+mod examples;
+
+pub use call_lists::run_calls;
+pub use examples::worked_examples;

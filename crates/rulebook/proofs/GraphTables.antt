@@ -7,21 +7,21 @@ use Rattle.records.specs.Graphs.{Graph}
 use Rattle.graph.specs.declared.rows.Row.{Row}
 use Rattle.graph.specs.Law.{dependency_count, feature_count}
 use Rattle.graph.specs.Opening.{over}
-use Rattle.graph.specs.OpeningLaw.{In, NamedAt, Opens, Resolved, Stands, needs, builds, defaults, asks, plainly, switches, joins}
+use Rattle.graph.specs.OpeningLaw.{In, NamedAt, Opens, Resolved, IsRuleOf, needs, builds, defaults, asks, plainly, switches, joins}
 use Rattle.graph.specs.Places.{Item, unit, feat, number, item_count}
 use Rattle.graph.specs.Rules.{Rule, rules, rows, row_of, graph_words}
 use Rattle.graph.proofs.Opens.{rows-length}
 use Rattle.graph.proofs.RulesStand.{rule-stands, stands-rule}
-use Rattle.policy.specs.declared.sides.Side.{Side}
-use Rattle.policy.specs.declared.sides.Side.TheVariants.{Target, Host}
-use Rattle.policy.specs.Sides.{sides, side_number, side_at}
+use Rattle.lanes.specs.declared.sides.Side.{Side}
+use Rattle.lanes.specs.declared.sides.Side.TheVariants.{Target, Host}
+use Rattle.lanes.specs.Sides.{sides, side_number, side_at}
 use Rattle.policy.specs.Answers.{Answers}
 use Rattle.rulebook.specs.declared.entries.ItemRule.{ItemRule}
-use Rattle.rulebook.specs.declared.entries.Entry.{Entry}
+use Rattle.rulebook.specs.declared.entries.WatchEntry.{WatchEntry}
 use Rattle.rulebook.specs.Tables.{Table, Among}
-use Rattle.rulebook.specs.Watch.{watched, entry_in, rule_table}
+use Rattle.rulebook.specs.Watch.{watch_entry, entry_in, rule_table}
 use Rattle.rulebook.specs.GraphTable.{is_whole, local_count, row_count, row_in, landing, row_lead, item_on, rule_to, rule_on, rule_for, graph_table}
-use Rattle.rulebook.specs.GraphRules.{Has, number_on, Leads, Watched, TableOf}
+use Rattle.rulebook.specs.GraphRules.{Has, number_on, Leads, IsWatchEntryOf, TableOf}
 use Rattle.rulebook.specs.RuleLaws.{source, from-watches, mate-watches}
 use Rattle.rulebook.specs.GraphLaws.{InRange, from_row, item-low, item-side}
 use Rattle.rulebook.proofs.ItemPlaces.{number-low, number_same, number-all, dependency-owner}
@@ -35,21 +35,21 @@ Held P (Some x) = P x
 -- a rule of a graph names items of the graph
 pub record Sane (g : Graph) (ρ : Rule) : Type 0 where
   pub from : Has g ρ.from
-  pub mate : Held (Has g) ρ.mate
+  pub with : Held (Has g) ρ.with
   pub to : Has g ρ.to
 
 named-has : (g : Graph) (p k : ℕ) (n : List ℕ) → NamedAt g p k n → Has g (feat p k)
 named-has g p k n h = h.1.0
 
 module _ (g : Graph) (resolved : Resolved g) where
-  pub sane : (ρ : Rule) → Stands g ρ → Sane g ρ
-  sane ρ (needs {p} {k} {d} at o) = record { from = dependency-owner g p k at.0; mate = tt; to = at.0 }
-  sane ρ (builds {p} {k} {d} at) = record { from = at.0; mate = tt; to = resolved.ends p k d at }
-  sane ρ (defaults {p} {k} {j} {d} at o n) = record { from = at.0; mate = tt; to = n.1.0 }
-  sane ρ (asks {p} {k} {j} {d} {n} at i m) = record { from = at.0; mate = tt; to = m.1.0 }
-  sane ρ (plainly {p} {j} {i} {f} {n} at v m) = record { from = at.0; mate = tt; to = m.1.0 }
-  sane ρ (switches {p} {j} {k} {f} {d} {n} at v dat e o) = record { from = at.0; mate = tt; to = dat.0 }
-  sane ρ (joins {p} {j} {k} {i} {f} {d} {n} {x} at v dat e m) = record { from = at.0; mate = dat.0; to = m.1.0 }
+  pub sane : (ρ : Rule) → IsRuleOf g ρ → Sane g ρ
+  sane ρ (needs {p} {k} {d} at o) = record { from = dependency-owner g p k at.0; with = tt; to = at.0 }
+  sane ρ (builds {p} {k} {d} at) = record { from = at.0; with = tt; to = resolved.ends p k d at }
+  sane ρ (defaults {p} {k} {j} {d} at o n) = record { from = at.0; with = tt; to = n.1.0 }
+  sane ρ (asks {p} {k} {j} {d} {n} at i m) = record { from = at.0; with = tt; to = m.1.0 }
+  sane ρ (plainly {p} {j} {i} {f} {n} at v m) = record { from = at.0; with = tt; to = m.1.0 }
+  sane ρ (switches {p} {j} {k} {f} {d} {n} at v dat e o) = record { from = at.0; with = tt; to = dat.0 }
+  sane ρ (joins {p} {j} {k} {i} {f} {d} {n} {x} at v dat e m) = record { from = at.0; with = dat.0; to = m.1.0 }
 
 -- between `In`, which goes by recursion, and a place, as the library's `Contains` has it
 in-at : {A : Type 0} (xs : List A) (r : ℕ) (d : A) → r < length xs → In (get_or xs r d) xs
@@ -63,7 +63,7 @@ at_in x (y ∷ xs) d (inl e) = (0, omega arith, sym e)
 at_in x (y ∷ xs) d (inr m) = let (r, l, e) = at_in x xs d m in (suc r, omega arith, e)
 
 abbrev no_rule : Rule
-no_rule = record { from = unit 0; mate = None; to = unit 0; lane = None; cross = false }
+no_rule = record { from = unit 0; with = None; to = unit 0; lane = None; cross = false }
 
 held_below : (g : Graph) (m : Option Item) → Held (Has g) m → Among (λ j. j < item_count g) (option_map (number g) m)
 held_below g None h = tt
@@ -101,7 +101,7 @@ module _ (file words : List ℕ) (g : Graph) (opens : Opens file words g) (answe
   rule_at r = get_or (rules g) r no_rule
 
   range : (ρ : Rule) → Sane g ρ → InRange n (row_of g ρ)
-  range ρ h = record { from = number-low g ρ.from h.from; to = number-low g ρ.to h.to; mate = held_below g ρ.mate h.mate }
+  range ρ h = record { from = number-low g ρ.from h.from; to = number-low g ρ.to h.to; with = held_below g ρ.with h.with }
 
   fewer : (r : ℕ) → r < count → r < length (rules g)
   fewer r h = omega (arith, length-map (rules g) (row_of g))
@@ -119,48 +119,48 @@ module _ (file words : List ℕ) (g : Graph) (opens : Opens file words g) (answe
 
   -- the rule on a side, in item numbers
   abbrev on_side : Rule → Side → Side → ItemRule
-  on_side ρ s goal = record { from = number_on g s ρ.from; mate = option_map (number_on g s) ρ.mate; to = number_on g goal ρ.to }
+  on_side ρ s goal = record { from = number_on g s ρ.from; with = option_map (number_on g s) ρ.with; to = number_on g goal ρ.to }
 
   rule-read : (r : ℕ) → r < count → (s goal : Side) → Leads answers s (rule_at r) goal → (j : ℕ) → side_at (j / n) ≡ Some s → rule j r ≡ Some (on_side (rule_at r) s goal)
   rule-read r h s goal leads j side =
       ap (λ o. rule_for answers n o (row_in n count ws r)) side
       ∙ ap (rule_on answers n s) (row-read r h)
       ∙ ap (rule_to n s (row_of g (rule_at r))) leads
-      ∙ ap (λ (m : Option ℕ). Some (record { from = number_on g s (rule_at r).from; mate = m; to = number_on g goal (rule_at r).to })) (on-twice (number g) (item_on n s) (rule_at r).mate)
+      ∙ ap (λ (m : Option ℕ). Some (record { from = number_on g s (rule_at r).from; with = m; to = number_on g goal (rule_at r).to })) (on-twice (number g) (item_on n s) (rule_at r).with)
 
   on-some : (f : Item → ℕ) (m : Option Item) (y : ℕ) → option_map f m ≡ Some y → (x : Item) × (m ≡ Some x) × (y ≡ f x)
   on-some f None y h = absurd (let z : ◌≡◌ {A = ℕ} 0 1 = cc in omega arith)
   on-some f (Some x) y h = (x, refl, cc)
 
-  sound : (i r : ℕ) (e : Entry) → entry_in (rule i r) i ≡ Some e → Watched answers g i e
+  sound : (i r : ℕ) (e : WatchEntry) → entry_in (rule i r) i ≡ Some e → IsWatchEntryOf answers g i e
   sound i r e h =
       let s = source (sides * n) count rule i r e h in
-      let f = from_row answers n count ws (side_at (i / n)) r s.of s.stands in
+      let f = from_row answers n count ws (side_at (i / n)) r s.of s.is_rule in
       let same : f.row ≡ row_of g (rule_at r) = let z : Some f.row ≡ Some (row_of g (rule_at r)) = sym f.read ∙ row-read r f.low in cc in
       let is : s.of ≡ on_side (rule_at r) f.at f.goal =
       f.is
-      ∙ ap (λ (w : Row). record { from = item_on n f.at w.from; mate = option_map (item_on n f.at) w.mate; to = item_on n f.goal w.to }) same
-      ∙ ap (λ (m : Option ℕ). record { from = number_on g f.at (rule_at r).from; mate = m; to = number_on g f.goal (rule_at r).to }) (on-twice (number g) (item_on n f.at) (rule_at r).mate) in
+      ∙ ap (λ (w : Row). record { from = item_on n f.at w.from; with = option_map (item_on n f.at) w.with; to = item_on n f.goal w.to }) same
+      ∙ ap (λ (m : Option ℕ). record { from = number_on g f.at (rule_at r).from; with = m; to = number_on g f.goal (rule_at r).to }) (on-twice (number g) (item_on n f.at) (rule_at r).with) in
       record {
         side = f.at;
         goal = f.goal;
         rule = rule_at r;
-        stands = rule-stands g (rule_at r) (in-at (rules g) r no_rule (fewer r f.low));
+        is_rule = rule-stands g (rule_at r) (in-at (rules g) r no_rule (fewer r f.low));
         leads = ap (λ (w : Row). landing f.at w.cross (row_lead answers f.at w.lane)) (sym same) ∙ f.lands;
         conclusion = s.watch.concludes ∙ ap (λ (ρ : ItemRule). ρ.to) is;
         premises = ⊎_elim
-            (λ z. inl (sym z.0 ∙ ap (λ (ρ : ItemRule). ρ.from) is, z.1 ∙ ap (λ (ρ : ItemRule). ρ.mate) is))
+            (λ z. inl (sym z.0 ∙ ap (λ (ρ : ItemRule). ρ.from) is, z.1 ∙ ap (λ (ρ : ItemRule). ρ.with) is))
             (λ z.
-            let (x, m, q) = on-some (number_on g f.at) (rule_at r).mate i (sym (ap (λ (ρ : ItemRule). ρ.mate) is) ∙ z.0) in
+            let (x, m, q) = on-some (number_on g f.at) (rule_at r).with i (sym (ap (λ (ρ : ItemRule). ρ.with) is) ∙ z.0) in
             inr (x, m, q, z.1 ∙ ap (λ (ρ : ItemRule). Some ρ.from) is))
             s.watch.by;
       }
 
-  complete : (i : ℕ) (e : Entry) → Watched answers g i e → (r : ℕ) × (entry_in (rule i r) i ≡ Some e)
+  complete : (i : ℕ) (e : WatchEntry) → IsWatchEntryOf answers g i e → (r : ℕ) × (entry_in (rule i r) i ≡ Some e)
   complete i e w =
-      let (r, low, eq) = at_in w.rule (rules g) no_rule (stands-rule g opens.says.lawful w.rule w.stands) in
+      let (r, low, eq) = at_in w.rule (rules g) no_rule (stands-rule g opens.says.lawful w.rule w.is_rule) in
       let h : r < count = omega (arith, length-map (rules g) (row_of g)) in
-      let k = sane g opens.resolved w.rule w.stands in
+      let k = sane g opens.resolved w.rule w.is_rule in
       let leads : Leads answers w.side (rule_at r) w.goal = subst (λ (ρ : Rule). Leads answers w.side ρ w.goal) (sym eq) w.leads in
       let read : (j : ℕ) → side_at (j / n) ≡ Some w.side → rule j r ≡ Some (on_side w.rule w.side w.goal) =
       λ j side. rule-read r h w.side w.goal leads j side ∙ ap (λ (ρ : Rule). Some (on_side ρ w.side w.goal)) eq in
@@ -169,13 +169,13 @@ module _ (file words : List ℕ) (g : Graph) (opens : Opens file words g) (answe
         ⊎_elim
             (λ z.
             let side : side_at (i / n) ≡ Some w.side = ap (λ j. side_at (j / n)) z.0 ∙ item-side n w.side (number g w.rule.from) (number-low g w.rule.from k.from) in
-            ap (λ o. entry_in o i) (read i side) ∙ ap (watched ρ) z.0 ∙ from-watches ρ
+            ap (λ o. entry_in o i) (read i side) ∙ ap (watch_entry ρ) z.0 ∙ from-watches ρ
             ∙ ap Some (λ j. record { partner = sym z.1 j; conclusion = sym w.conclusion j }))
             (λ z.
-            let has : Has g z.0 = subst (Held (Has g)) z.1 k.mate in
+            let has : Has g z.0 = subst (Held (Has g)) z.1 k.with in
             let side : side_at (i / n) ≡ Some w.side = ap (λ j. side_at (j / n)) z.2 ∙ item-side n w.side (number g z.0) (number-low g z.0 has) in
-            let mate : ρ.mate ≡ Some i = ap (option_map (number_on g w.side)) z.1 ∙ ap Some (sym z.2) in
-            ap (λ o. entry_in o i) (read i side) ∙ mate-watches ρ i mate
+            let with : ρ.with ≡ Some i = ap (option_map (number_on g w.side)) z.1 ∙ ap Some (sym z.2) in
+            ap (λ o. entry_in o i) (read i side) ∙ mate-watches ρ i with
             ∙ ap Some (λ j. record { partner = sym z.3 j; conclusion = sym w.conclusion j }))
             w.premises,
       )

@@ -42,10 +42,10 @@ module _ (w : Package → ℕ) where
       (cases_lt n (w a))
 
 abbrev dependencies : Package → ℕ
-dependencies a = length (dependencies_in a.parts)
+dependencies a = length (dependencies_in a.declarations)
 
 abbrev features : Package → ℕ
-features a = length (features_in a.parts)
+features a = length (features_in a.declarations)
 
 -- these are the counts and sums of the definitions
 dependency-sizes : (g : Graph) (p : ℕ) → (sizes dependencies g p ≡ length (dependencies_of g p)) × (before dependencies g p ≡ dependencies_before g p)

@@ -6,11 +6,11 @@ use Rattle.std.specs.Option.{IfSome, IsSomeAnd, MatchOption, option_map}
 use Rattle.std.specs.Fn.{Called}
 use Rattle.std.specs.Iterator.Runs.{Run, ItemsCountUp, CallKeepsClosure, AllItemsGive, IsFirstToGive}
 use denote.Param.Members.{Mut}
-use Rattle.rulebook.specs.declared.entries.Found.{Found}
-use Rattle.rulebook.specs.declared.entries.Entry.{Entry}
+use Rattle.rulebook.specs.declared.entries.RowEntry.{RowEntry}
+use Rattle.rulebook.specs.declared.entries.WatchEntry.{WatchEntry}
 use Rattle.rulebook.specs.Tables.{or_later, first_of}
 
-module _ (entry : ℕ → Option Entry) (n r : ℕ) where
+module _ (entry : ℕ → Option WatchEntry) (n r : ℕ) where
   -- there is a row more
   pub first_more : r < n → first_of entry r (n - r) ≡ or_later (entry r) r (first_of entry (r + 1) (n - (r + 1)))
   first_more h = let z : n - r ≡ suc (n - (r + 1)) = omega arith in ap (first_of entry r) z
@@ -22,16 +22,16 @@ module _ (entry : ℕ → Option Entry) (n r : ℕ) where
   first-miss h none = first_more h ∙ ap (λ o. or_later o r (first_of entry (r + 1) (n - (r + 1)))) none
 
 -- without entries nothing is found
-pub first-none : (entry : ℕ → Option Entry) (r n : ℕ) → ((k : ℕ) → entry k ≡ None) → first_of entry r n ≡ None
+pub first-none : (entry : ℕ → Option WatchEntry) (r n : ℕ) → ((k : ℕ) → entry k ≡ None) → first_of entry r n ≡ None
 first-none entry r zero h = refl
 first-none entry r (suc n) h = ap (λ o. or_later o r (first_of entry (r + 1) n)) (h r) ∙ first-none entry (r + 1) n h
 
 -- what a search answers at a row
-hit-later : (o : Option Entry) (r : ℕ) (later : Option Found) (y : Found) → Some y ≡ or_later o r None → or_later o r later ≡ Some y
+hit-later : (o : Option WatchEntry) (r : ℕ) (later : Option RowEntry) (y : RowEntry) → Some y ≡ or_later o r None → or_later o r later ≡ Some y
 hit-later None r later y h = absurd (let z : ◌≡◌ {A = ℕ} 0 1 = cc in omega arith)
 hit-later (Some e) r later y h = sym h
 
-none-later : (o : Option Entry) (r : ℕ) → None ≡ or_later o r None → o ≡ None
+none-later : (o : Option WatchEntry) (r : ℕ) → None ≡ or_later o r None → o ≡ None
 none-later None r h = refl
 none-later (Some e) r h = absurd (let z : ◌≡◌ {A = ℕ} 0 1 = cc in omega arith)
 
@@ -44,7 +44,7 @@ some-given Q x None e q = absurd (let z : ◌≡◌ {A = ℕ} 0 1 = cc in omega 
 some-given Q x (Some y) e q = q
 
 -- `find_map` over the rows from a up to b, with a closure that answers the entry of a row
-module _ {S F : Type 0} {steps : S → Option ℕ → S → Type 0} (g : Mut F (ℕ × Unit {0}) (Option Found)) (f : F) (entry : ℕ → Option Entry) (acts : (k : ℕ) (r : Option Found) (q : F) → Called g f (k, tt) r q → (q ≡ f) × (r ≡ or_later (entry k) k None))
+module _ {S F : Type 0} {steps : S → Option ℕ → S → Type 0} (g : Mut F (ℕ × Unit {0}) (Option RowEntry)) (f : F) (entry : ℕ → Option WatchEntry) (acts : (k : ℕ) (r : Option RowEntry) (q : F) → Called g f (k, tt) r q → (q ≡ f) × (r ≡ or_later (entry k) k None))
     (p : Run steps) (a b : ℕ) (up : ItemsCountUp p a b) where
   keeps : CallKeepsClosure g f
   keeps k r q h = (acts k.0 r q h).0
@@ -60,7 +60,7 @@ module _ {S F : Type 0} {steps : S → Option ℕ → S → Type 0} (g : Mut F (
       let (x, at, called) = both (p.at j) (up.2 j) h in
       ap entry (sym at.0) ∙ none-later (entry x) x (acts x None f called).1
 
-  pub first-found : (r : Option Found) → MatchOption r (IsTrue p.whole × AllItemsGive p g f None) (λ y. (i : ℕ) × (i < p.len) × (p.len ≡ i + 1) × IsFirstToGive p g f (Some y) None i) → r ≡ first_of entry a (b - a)
+  pub first-found : (r : Option RowEntry) → MatchOption r (IsTrue p.whole × AllItemsGive p g f None) (λ y. (i : ℕ) × (i < p.len) × (p.len ≡ i + 1) × IsFirstToGive p g f (Some y) None i) → r ≡ first_of entry a (b - a)
   first-found None h = ⊎_elim
       (λ (l : a < b).
       let n : p.len ≡ b - a = up.1 h.0 in

@@ -3,22 +3,22 @@ use Rattle.std.proofs.Common.{◌≡◌, ℕ, ◌-◌, ◌/◌, ltb, List, Some,
 use Rattle.std.specs.Option.{ok_or}
 use Rattle.std.specs.Result.{result_ok}
 use Rattle.graph.specs.declared.rows.Row.{Row}
-use Rattle.policy.specs.declared.sides.Side.{Side}
-use Rattle.policy.specs.declared.sides.UnknownSide.{UnknownSide}
-use Rattle.policy.specs.Sides.{side_at, unknown}
+use Rattle.lanes.specs.declared.sides.Side.{Side}
+use Rattle.lanes.specs.declared.sides.UnknownSide.{UnknownSide}
+use Rattle.lanes.specs.Sides.{side_at, unknown_side}
 use Rattle.policy.specs.Answers.{Answers}
 use Rattle.rulebook.specs.Tables.{first_of, seek}
 use Rattle.rulebook.specs.Watch.{entry_in}
-use Rattle.rulebook.specs.GraphTable.{local_count, row_count, row_read, row_in, rule_on, rule_for, graph_table}
+use Rattle.rulebook.specs.GraphTable.{local_count, row_count, row_at, row_in, rule_on, rule_for, graph_table}
 use Rattle.rulebook.specs.GraphLaws.{read-range}
 use Rattle.rulebook.specs.RuleLaws.{cond-some}
 use Rattle.rulebook.proofs.Scans.{first-none}
 
 -- the side of a number, as it is asked for
-pub side-known : (k : ℕ) {r : Result Side UnknownSide} {o : Option Side} → r ≡ ok_or (side_at k) (unknown k) → o ≡ result_ok r → o ≡ side_at k
+pub side-known : (k : ℕ) {r : Result Side UnknownSide} {o : Option Side} → r ≡ ok_or (side_at k) (unknown_side k) → o ≡ result_ok r → o ≡ side_at k
 side-known k e h = h ∙ ap result_ok e ∙ go (side_at k)
   where
-    go : (s : Option Side) → result_ok (ok_or s (unknown k)) ≡ s
+    go : (s : Option Side) → result_ok (ok_or s (unknown_side k)) ≡ s
     go None = refl
     go (Some x) = refl
 
@@ -32,7 +32,7 @@ no_row rows ws r = go (row_in 0 rows ws r) refl
   where
     go : (o : Option Row) → row_in 0 rows ws r ≡ o → o ≡ None
     go None h = refl
-    go (Some row) h = absurd (omega (arith, (read-range 0 ws r row (cond-some (ltb r rows) (row_read 0 ws r) row h).1).from))
+    go (Some row) h = absurd (omega (arith, (read-range 0 ws r row (cond-some (ltb r rows) (row_at 0 ws r) row h).1).from))
 
 module _ (answers : Answers) (ws : List ℕ) (i row : ℕ) where
   pub empty-seek : local_count ws ≡ 0 → seek (graph_table answers ws) i row ≡ None

@@ -1,13 +1,13 @@
 -- The rules of a graph on each side, by place, and what it is for a table to be that of a graph.
 use Rattle.std.specs.Prelude.{◌≡◌, ℕ, ◌*◌, ◌<◌, ◌⊎◌, length, Some, option_map}
 use Rattle.records.specs.Graphs.{Graph}
-use Rattle.graph.specs.OpeningLaw.{Stands}
+use Rattle.graph.specs.OpeningLaw.{IsRuleOf}
 use Rattle.graph.specs.Places.{Item, unit, dep, feat, dependencies_of, features_of, number, item_count}
 use Rattle.graph.specs.Rules.{Rule}
-use Rattle.policy.specs.declared.sides.Side.{Side}
-use Rattle.policy.specs.Sides.{sides}
+use Rattle.lanes.specs.declared.sides.Side.{Side}
+use Rattle.lanes.specs.Sides.{sides}
 use Rattle.policy.specs.Answers.{Answers}
-use Rattle.rulebook.specs.declared.entries.Entry.{Entry}
+use Rattle.rulebook.specs.declared.entries.WatchEntry.{WatchEntry}
 use Rattle.rulebook.specs.Tables.{Table}
 use Rattle.rulebook.specs.GraphTable.{landing, row_lead, item_on}
 
@@ -27,15 +27,15 @@ Leads answers s ρ goal = landing s ρ.cross (row_lead answers s ρ.lane) ≡ So
 
 -- e is the entry that item i has of a rule that stands, and that is not cut on the side of its premises: i is one of
 -- these, the partner is the other, if there is one, and the conclusion is the rule's
-pub record Watched (answers : Answers) (g : Graph) (i : ℕ) (e : Entry) : Type 0 where
+pub record IsWatchEntryOf (answers : Answers) (g : Graph) (i : ℕ) (e : WatchEntry) : Type 0 where
   pub side : Side
   pub goal : Side
   pub rule : Rule
-  pub stands : Stands g rule
+  pub is_rule : IsRuleOf g rule
   pub leads : Leads answers side rule goal
   pub conclusion : e.conclusion ≡ number_on g goal rule.to
-  pub premises : ((i ≡ number_on g side rule.from) × (e.partner ≡ option_map (number_on g side) rule.mate))
-      ⊎ ((x : Item) × (rule.mate ≡ Some x) × (i ≡ number_on g side x) × (e.partner ≡ Some (number_on g side rule.from)))
+  pub premises : ((i ≡ number_on g side rule.from) × (e.partner ≡ option_map (number_on g side) rule.with))
+      ⊎ ((x : Item) × (rule.with ≡ Some x) × (i ≡ number_on g side x) × (e.partner ≡ Some (number_on g side rule.from)))
 
 -- the table is that of a graph under these answers:
 pub record TableOf (answers : Answers) (g : Graph) (t : Table) : Type 0 where
@@ -45,5 +45,5 @@ pub record TableOf (answers : Answers) (g : Graph) (t : Table) : Type 0 where
   pub apart : (s u : Side) (x y : Item) → Has g x → Has g y → number_on g s x ≡ number_on g u y → (s ≡ u) × (x ≡ y)
   pub all : (i : ℕ) → i < t.items → (s : Side) × (x : Item) × Has g x × (number_on g s x ≡ i)
   -- its entries are those of the graph's rules, where they lead
-  pub sound : (i r : ℕ) (e : Entry) → t.entry i r ≡ Some e → Watched answers g i e
-  pub complete : (i : ℕ) (e : Entry) → Watched answers g i e → (r : ℕ) × (t.entry i r ≡ Some e)
+  pub sound : (i r : ℕ) (e : WatchEntry) → t.entry i r ≡ Some e → IsWatchEntryOf answers g i e
+  pub complete : (i : ℕ) (e : WatchEntry) → IsWatchEntryOf answers g i e → (r : ℕ) × (t.entry i r ≡ Some e)

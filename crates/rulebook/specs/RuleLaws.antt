@@ -4,9 +4,9 @@ use Rattle.std.specs.Prelude.{◌≡◌, ℕ, ◌<◌, ◌≤◌, Bool, true, fa
 use Rattle.std.proofs.Common.{sym, ap, ◌∙◌, subst, inl, inr, ⊎_elim, arith}
 use Rattle.std.proofs.lemmas.Bool.{cond-true, cond-false, eqb-true, eq-eqb, ne_eqb, cases_eq}
 use Rattle.rulebook.specs.declared.entries.ItemRule.{ItemRule}
-use Rattle.rulebook.specs.declared.entries.Entry.{Entry}
-use Rattle.rulebook.specs.Tables.{Laws, Among, pair, most_items, most_rows}
-use Rattle.rulebook.specs.Watch.{is_item, watched, entry_in, rule_table}
+use Rattle.rulebook.specs.declared.entries.WatchEntry.{WatchEntry}
+use Rattle.rulebook.specs.Tables.{Laws, Among, pair, max_items, max_rows}
+use Rattle.rulebook.specs.Watch.{is_item, watch_entry, entry_in, rule_table}
 
 pub cond-some : {A : Type 0} (b : Bool) (o : Option A) (e : A) → cond b o None ≡ Some e → (b ≡ true) × (o ≡ Some e)
 cond-some true o e h = (refl, h)
@@ -14,106 +14,106 @@ cond-some false o e h = absurd (let z : ◌≡◌ {A = ℕ} 0 1 = cc in omega ar
 
 -- an item is a premise of a rule; the entry that it watches there
 abbrev pub Premise : ItemRule → ℕ → Type 0
-Premise ρ i = (ρ.from ≡ i) ⊎ (ρ.mate ≡ Some i)
+Premise ρ i = (ρ.from ≡ i) ⊎ (ρ.with ≡ Some i)
 
 is-item : (m : Option ℕ) (i : ℕ) → is_item m i ≡ true → m ≡ Some i
 is-item None i h = absurd (let z : ◌≡◌ {A = ℕ} 0 1 = cc in omega arith)
 is-item (Some j) i h = ap Some (eqb-true j i h)
 
 -- which premise an entry is watched from
-pub record Watches (ρ : ItemRule) (i : ℕ) (e : Entry) : Type 0 where
+pub record Watches (ρ : ItemRule) (i : ℕ) (e : WatchEntry) : Type 0 where
   pub concludes : e.conclusion ≡ ρ.to
-  pub by : ((ρ.from ≡ i) × (e.partner ≡ ρ.mate)) ⊎ ((ρ.mate ≡ Some i) × (e.partner ≡ Some ρ.from))
+  pub by : ((ρ.from ≡ i) × (e.partner ≡ ρ.with)) ⊎ ((ρ.with ≡ Some i) × (e.partner ≡ Some ρ.from))
 
 module _ (ρ : ItemRule) where
-  same-entry : (u v : Entry) → ◌≡◌ {A = Option Entry} (Some u) (Some v) → u ≡ v
+  same-entry : (u v : WatchEntry) → ◌≡◌ {A = Option WatchEntry} (Some u) (Some v) → u ≡ v
   same-entry u v h = cc
 
-  pub watches : (i : ℕ) (e : Entry) → watched ρ i ≡ Some e → Watches ρ i e
+  pub watches : (i : ℕ) (e : WatchEntry) → watch_entry ρ i ≡ Some e → Watches ρ i e
   watches i e h = go (ρ.from == i) refl h
     where
-      lone : Entry
-      lone = record { partner = ρ.mate; conclusion = ρ.to }
+      lone : WatchEntry
+      lone = record { partner = ρ.with; conclusion = ρ.to }
 
-      go : (b : Bool) → (ρ.from == i) ≡ b → cond b (Some lone) (cond (is_item ρ.mate i) (Some (pair ρ.from ρ.to)) None) ≡ Some e → Watches ρ i e
+      go : (b : Bool) → (ρ.from == i) ≡ b → cond b (Some lone) (cond (is_item ρ.with i) (Some (pair ρ.from ρ.to)) None) ≡ Some e → Watches ρ i e
       go true b h =
           let q = same-entry lone e h in
-          record { concludes = sym (ap (λ (v : Entry). v.conclusion) q); by = inl (eqb-true ρ.from i b, sym (ap (λ (v : Entry). v.partner) q)) }
+          record { concludes = sym (ap (λ (v : WatchEntry). v.conclusion) q); by = inl (eqb-true ρ.from i b, sym (ap (λ (v : WatchEntry). v.partner) q)) }
       go false b h =
-          let w = cond-some (is_item ρ.mate i) (Some (pair ρ.from ρ.to)) e h in
+          let w = cond-some (is_item ρ.with i) (Some (pair ρ.from ρ.to)) e h in
           let q = same-entry (pair ρ.from ρ.to) e w.1 in
-          record { concludes = sym (ap (λ (v : Entry). v.conclusion) q); by = inr (is-item ρ.mate i w.0, sym (ap (λ (v : Entry). v.partner) q)) }
+          record { concludes = sym (ap (λ (v : WatchEntry). v.conclusion) q); by = inr (is-item ρ.with i w.0, sym (ap (λ (v : WatchEntry). v.partner) q)) }
 
-  pub from-watches : watched ρ ρ.from ≡ Some (record { partner = ρ.mate; conclusion = ρ.to })
+  pub from-watches : watch_entry ρ ρ.from ≡ Some (record { partner = ρ.with; conclusion = ρ.to })
   from-watches = cond-true (ρ.from == ρ.from) _ _ (eq-eqb ρ.from ρ.from refl)
 
-  pub mate-watches : (i : ℕ) → ρ.mate ≡ Some i → watched ρ i ≡ Some (pair ρ.from ρ.to)
+  pub mate-watches : (i : ℕ) → ρ.with ≡ Some i → watch_entry ρ i ≡ Some (pair ρ.from ρ.to)
   mate-watches i h = ⊎_elim
       (λ (z : ρ.from ≡ i). cond-true (ρ.from == i) _ _ (eq-eqb ρ.from i z)
       ∙ ap (λ (o : Option ℕ). Some (record { partner = o; conclusion = ρ.to })) (h ∙ ap Some (sym z)))
-      (λ (z : ρ.from ≡ i → ⊥). cond-false (ρ.from == i) _ _ (ne_eqb ρ.from i z) ∙ cond-true (is_item ρ.mate i) _ _ (ap (λ o. is_item o i) h ∙ eq-eqb i i refl))
+      (λ (z : ρ.from ≡ i → ⊥). cond-false (ρ.from == i) _ _ (ne_eqb ρ.from i z) ∙ cond-true (is_item ρ.with i) _ _ (ap (λ o. is_item o i) h ∙ eq-eqb i i refl))
       (cases_eq ρ.from i)
 
   -- a pair rule is watched from both premises
-  pub watches-both : (a b c : ℕ) → Watches ρ a (pair b c) → Premise ρ b × (watched ρ b ≡ Some (pair a c))
+  pub watches-both : (a b c : ℕ) → Watches ρ a (pair b c) → Premise ρ b × (watch_entry ρ b ≡ Some (pair a c))
   watches-both a b c w = ⊎_elim
       (λ z.
-      let m : ρ.mate ≡ Some b = sym z.1 in
+      let m : ρ.with ≡ Some b = sym z.1 in
       let f : ρ.from ≡ a = z.0 in let d : c ≡ ρ.to = w.concludes in
       (inr m, mate-watches b m ∙ both f d))
       (λ z.
-      let m : ρ.mate ≡ Some a = z.0 in
+      let m : ρ.with ≡ Some a = z.0 in
       let f : b ≡ ρ.from = cc z.1 in let d : c ≡ ρ.to = w.concludes in
-      (inl (sym f), ap (watched ρ) f ∙ from-watches ∙ lone m d))
+      (inl (sym f), ap (watch_entry ρ) f ∙ from-watches ∙ lone m d))
       w.by
     where
-      both : ρ.from ≡ a → c ≡ ρ.to → ◌≡◌ {A = Option Entry} (Some (pair ρ.from ρ.to)) (Some (pair a c))
+      both : ρ.from ≡ a → c ≡ ρ.to → ◌≡◌ {A = Option WatchEntry} (Some (pair ρ.from ρ.to)) (Some (pair a c))
       both f d = cc
 
-      lone : ρ.mate ≡ Some a → c ≡ ρ.to → ◌≡◌ {A = Option Entry} (Some (record { partner = ρ.mate; conclusion = ρ.to })) (Some (pair a c))
+      lone : ρ.with ≡ Some a → c ≡ ρ.to → ◌≡◌ {A = Option WatchEntry} (Some (record { partner = ρ.with; conclusion = ρ.to })) (Some (pair a c))
       lone m d = cc
 
 pub record Known (items rows r : ℕ) (ρ : ItemRule) : Type 0 where
   pub row : r < rows
   pub from : ρ.from < items
   pub to : ρ.to < items
-  pub mate : Among (λ b. b < items) ρ.mate
+  pub with : Among (λ b. b < items) ρ.with
 
 module _ (items rows : ℕ) (rule : ℕ → ℕ → Option ItemRule) where
   -- the rule that an entry is of
-  pub record Source (i r : ℕ) (e : Entry) : Type 0 where
+  pub record Source (i r : ℕ) (e : WatchEntry) : Type 0 where
     pub of : ItemRule
-    pub stands : rule i r ≡ Some of
+    pub is_rule : rule i r ≡ Some of
     pub watch : Watches of i e
 
-  pub source : (i r : ℕ) (e : Entry) → entry_in (rule i r) i ≡ Some e → Source i r e
+  pub source : (i r : ℕ) (e : WatchEntry) → entry_in (rule i r) i ≡ Some e → Source i r e
   source i r e h = go (rule i r) refl h
     where
       go : (o : Option ItemRule) → rule i r ≡ o → entry_in o i ≡ Some e → Source i r e
       go None q h = absurd (let z : ◌≡◌ {A = ℕ} 0 1 = cc in omega arith)
-      go (Some ρ) q h = record { of = ρ; stands = q; watch = watches ρ i e h }
+      go (Some ρ) q h = record { of = ρ; is_rule = q; watch = watches ρ i e h }
 
-  premise : (i r : ℕ) (e : Entry) (s : Source i r e) → Premise s.of i
+  premise : (i r : ℕ) (e : WatchEntry) (s : Source i r e) → Premise s.of i
   premise i r e s = ⊎_elim (λ z. inl z.0) (λ z. inr z.0) s.watch.by
 
-  pub rule-laws : items ≤ most_items → rows ≤ most_rows →
+  pub rule-laws : items ≤ max_items → rows ≤ max_rows →
       ((i r : ℕ) (ρ : ItemRule) → rule i r ≡ Some ρ → Known items rows r ρ) →
       ((i j r : ℕ) (ρ : ItemRule) → rule i r ≡ Some ρ → Premise ρ i → Premise ρ j → rule j r ≡ Some ρ) →
       Laws (rule_table items rows rule)
   rule-laws few fewer known shared = record {
     few_items = few;
     few_rows = fewer;
-    within = λ i r e h. let s = source i r e h in let k = known i r s.of s.stands in (low s.of i k (premise i r e s), k.row);
-    below = λ i r e h. let s = source i r e h in let k = known i r s.of s.stands in (
+    within = λ i r e h. let s = source i r e h in let k = known i r s.of s.is_rule in (low s.of i k (premise i r e s), k.row);
+    below = λ i r e h. let s = source i r e h in let k = known i r s.of s.is_rule in (
       subst (λ (c : ℕ). c < items) (sym s.watch.concludes) k.to,
-      ⊎_elim (λ z. subst (Among (λ b. b < items)) (sym z.1) k.mate) (λ z. subst (Among (λ b. b < items)) (sym z.1) k.from) s.watch.by,
+      ⊎_elim (λ z. subst (Among (λ b. b < items)) (sym z.1) k.with) (λ z. subst (Among (λ b. b < items)) (sym z.1) k.from) s.watch.by,
     );
     paired = λ a b c r h.
         let s = source a r (pair b c) h in
         let w = watches-both s.of a b c s.watch in
-        ap (λ o. entry_in o b) (shared a b r s.of s.stands (premise a r (pair b c) s) w.0) ∙ w.1;
+        ap (λ o. entry_in o b) (shared a b r s.of s.is_rule (premise a r (pair b c) s) w.0) ∙ w.1;
   }
     where
       low : {r : ℕ} (ρ : ItemRule) (i : ℕ) → Known items rows r ρ → Premise ρ i → i < items
       low ρ i k (inl f) = subst (λ (j : ℕ). j < items) f k.from
-      low ρ i k (inr m) = subst (Among (λ b. b < items)) m k.mate
+      low ρ i k (inr m) = subst (Among (λ b. b < items)) m k.with

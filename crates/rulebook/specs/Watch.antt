@@ -1,7 +1,7 @@
 -- The watch entries of a rule's premises, and tables that rules make.
 use Rattle.std.specs.Prelude.{ℕ, Bool, true, false, cond, ◌&&◌, Some, None, Option, ◌==◌, nat_lt}
 use Rattle.rulebook.specs.declared.entries.ItemRule.{ItemRule}
-use Rattle.rulebook.specs.declared.entries.Entry.{Entry}
+use Rattle.rulebook.specs.declared.entries.WatchEntry.{WatchEntry}
 use Rattle.rulebook.specs.Tables.{Table, pair}
 
 -- the item, if there is one, is i
@@ -9,16 +9,16 @@ abbrev pub is_item : Option ℕ → ℕ → Bool
 is_item None i = false
 is_item (Some j) i = j == i
 
--- the partner of from is the mate, and the other way round
-abbrev pub watched : ItemRule → ℕ → Option Entry
-watched ρ i =
-    cond (ρ.from == i) (Some (record { partner = ρ.mate; conclusion = ρ.to }))
-    (cond (is_item ρ.mate i) (Some (pair ρ.from ρ.to)) None)
+-- the partner of from is the with, and the other way round
+abbrev pub watch_entry : ItemRule → ℕ → Option WatchEntry
+watch_entry ρ i =
+    cond (ρ.from == i) (Some (record { partner = ρ.with; conclusion = ρ.to }))
+    (cond (is_item ρ.with i) (Some (pair ρ.from ρ.to)) None)
 
 -- a row without a rule gives no entry
-abbrev pub entry_in : Option ItemRule → ℕ → Option Entry
+abbrev pub entry_in : Option ItemRule → ℕ → Option WatchEntry
 entry_in None i = None
-entry_in (Some ρ) i = watched ρ i
+entry_in (Some ρ) i = watch_entry ρ i
 
 -- an item, if there is one, is below a count
 abbrev pub is_below : ℕ → Option ℕ → Bool
@@ -27,7 +27,7 @@ is_below n (Some i) = nat_lt i n
 
 -- the items of a row are below a count
 abbrev pub in_range : ℕ → ℕ → Option ℕ → ℕ → Bool
-in_range n from mate to = nat_lt from n && (nat_lt to n && is_below n mate)
+in_range n from with to = nat_lt from n && (nat_lt to n && is_below n with)
 
 -- the table in which an item watches the rule of a row that is for it
 abbrev pub rule_table : ℕ → ℕ → (ℕ → ℕ → Option ItemRule) → Table

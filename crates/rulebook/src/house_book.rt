@@ -3,16 +3,16 @@ ghost use Rattle.std.specs.Prelude.{◌≡◌, ℕ, ◌*◌, ◌<◌, [], length
 ghost use Rattle.rulebook.specs.HouseTable.{house_width, count_of, house_rows, house_rule, house_table};
 ghost use Rattle.std.proofs.Common.{rules};
 
-use crate::book::{MOST_ITEMS, Rulebook};
-use crate::entries::{Found, ItemRule};
+use crate::book::{MAX_ITEMS, Rulebook};
+use crate::entries::{ItemRule, RowEntry};
 use crate::rule_rows::{RuleRows, first_entry};
 use crate::words::Words;
-use graph::rows::mate_of;
+use graph::with_of;
 
 // The most rows that count, and the words of one.
-const MOST_HOUSE_ROWS: usize = 4_096;
+const MAX_HOUSE_ROWS: usize = 4_096;
 
-const WIDTH: usize = 3;
+const ROW_WIDTH: usize = 3;
 
 // Rules over `items` items: each three words, from, with, to, are one.
 #[derive(Clone, Copy)]
@@ -22,12 +22,12 @@ pub struct HouseBook<W> {
 }
 
 // The whole rows of the words, up to the limit.
-fn rows(words: &[u32]) -> &[[u32; WIDTH]]
+fn rows(words: &[u32]) -> &[[u32; ROW_WIDTH]]
     ensures len { length result.now ≡ house_rows words.now }
     ensures each { (r : ℕ) → r < length result.now → slice_index_or result.now r [] ≡ take house_width (drop (house_width * r) words.now) }
 {
     let (rows, _) = words.as_chunks();
-    &rows[..rows.len().min(MOST_HOUSE_ROWS)]
+    &rows[..rows.len().min(MAX_HOUSE_ROWS)]
 }
 
 impl<W: Words> HouseBook<W> {
@@ -35,7 +35,7 @@ impl<W: Words> HouseBook<W> {
     fn item_count(&self) -> u32
         ensures { result ≡ count_of self.now.items }
     {
-        if self.items > MOST_ITEMS {
+        if self.items > MAX_ITEMS {
             0
         } else {
             self.items
@@ -55,8 +55,8 @@ impl<W: Words> RuleRows for HouseBook<W> {
 
     fn rule(&self, row: u32) -> Option<ItemRule> {
         let [from, with, to] = *rows(self.words.words()).get(row as usize)?;
-        let mate = mate_of(with);
-        let rule = ItemRule { from, mate, to };
+        let with = with_of(with);
+        let rule = ItemRule { from, with, to };
         rule.is_below(self.item_count()).then_some(rule)
     }
 }
@@ -74,7 +74,7 @@ impl<W: Words> Rulebook for HouseBook<W> {
         self.count()
     }
 
-    fn seek(&self, item: u32, row: u32) -> Option<Found> {
+    fn seek(&self, item: u32, row: u32) -> Option<RowEntry> {
         first_entry(self, item, row)
     }
 }

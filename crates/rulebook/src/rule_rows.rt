@@ -4,7 +4,7 @@ ghost use Rattle.rulebook.specs.declared.entries.ItemRule.{ItemRule};
 ghost use Rattle.rulebook.specs.Tables.{first_of};
 ghost use Rattle.rulebook.specs.Watch.{entry_in};
 
-use crate::entries::{Found, ItemRule};
+use crate::entries::{ItemRule, RowEntry};
 
 // Some rows, each with a rule or none.
 pub trait RuleRows {
@@ -22,11 +22,11 @@ pub trait RuleRows {
 }
 
 // The first watch entry of an item at or after a row.
-pub(crate) fn first_entry<R: RuleRows>(rows: &R, item: u32, row: u32) -> Option<Found>
+pub(crate) fn first_entry<R: RuleRows>(rows: &R, item: u32, row: u32) -> Option<RowEntry>
     ensures { result ≡ first_of (λ k. entry_in (R.RuleRows.rule rows.now k) item) row (R.RuleRows.count rows.now - row) }
 {
     (row..rows.count()).find_map(|row| {
         let entry = rows.rule(row)?.watch(item)?;
-        Some(Found { row, entry })
+        Some(RowEntry { row, entry })
     })
 }

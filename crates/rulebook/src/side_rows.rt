@@ -1,28 +1,28 @@
 // The rows of graph words, as rules between the items of one side.
 ghost use Rattle.std.specs.Prelude.{◌≡◌, ◌+◌, ◌*◌, ◌<◌, ◌≤◌, true, length, Some};
-ghost use Rattle.graph.specs.Limits.{most_rule_rows, most_local_items, head_words, row_width};
-ghost use Rattle.policy.specs.Answers.{told_by};
-ghost use Rattle.rulebook.specs.GraphTable.{is_whole, local_count, row_count, row_read, row_in, row_lead, landing, item_on, rule_to, rule_on};
+ghost use Rattle.graph.specs.Limits.{max_rule_rows, max_local_items, head_words, row_width};
+ghost use Rattle.policy.specs.Answers.{answers_of};
+ghost use Rattle.rulebook.specs.GraphTable.{is_whole, local_count, row_count, row_at, row_in, row_lead, landing, item_on, rule_to, rule_on};
 ghost use Rattle.rulebook.specs.Watch.{in_range};
 
 use crate::entries::ItemRule;
 use crate::rule_rows::RuleRows;
-use graph::limits::{MAX_DEPENDENCIES, MAX_FEATURES, MAX_PACKAGES, MAX_ROWS};
-use graph::rows::{HEAD, Row, WIDTH};
-use policy::sides::Side;
-use policy::told::Told;
-use records::lanes::Lane;
+use graph::{
+    HEAD_WORDS, MAX_DEPENDENCIES, MAX_FEATURES, MAX_PACKAGES, MAX_RULE_ROWS, ROW_WIDTH, Row,
+};
+use lanes::{Lane, Side};
+use policy::PolicyTable;
 
 // Whether the words begin with counts within their limits, and with as many rows as they say.
 fn is_whole(words: &[u32]) -> bool
     ensures { result ≡ is_whole words.now }
 {
-    words.len() >= HEAD
+    words.len() >= HEAD_WORDS
         && words[0] as usize <= MAX_PACKAGES
         && words[1] as usize <= MAX_DEPENDENCIES
         && words[2] as usize <= MAX_FEATURES
-        && words[3] <= MAX_ROWS
-        && HEAD + WIDTH * words[3] as usize <= words.len()
+        && words[3] <= MAX_RULE_ROWS
+        && HEAD_WORDS + ROW_WIDTH * words[3] as usize <= words.len()
 }
 
 // How many local items the words have: none if they are not whole, as the table of the book says. An `Option` would be
@@ -46,13 +46,13 @@ pub(crate) fn row_count(words: &[u32]) -> u32
 
 // The row, if its words are in range. One row is looked at, so its place is counted and not cut with all others.
 fn read_row(words: &[u32], count: u32, row: u32) -> Option<Row>
-    requires { (row < most_rule_rows) × ((head_words + row_width * row) + row_width ≤ length words.now) }
-    ensures { result ≡ row_read count words.now row }
+    requires { (row < max_rule_rows) × ((head_words + row_width * row) + row_width ≤ length words.now) }
+    ensures { result ≡ row_at count words.now row }
 {
-    let words = words[HEAD + WIDTH * row as usize..].first_chunk()?;
+    let words = words[HEAD_WORDS + ROW_WIDTH * row as usize..].first_chunk()?;
     let row = Row::try_from(*words).ok()?;
-    let Row { from, mate, to, .. } = row;
-    ItemRule { from, mate, to }.is_below(count).then_some(row)
+    let Row { from, with, to, .. } = row;
+    ItemRule { from, with, to }.is_below(count).then_some(row)
 }
 
 // The side of a conclusion, unless the lane is cut.
@@ -64,7 +64,7 @@ fn landing_side(side: Side, cross: bool, lead: Option<Side>) -> Option<Side>
 
 // The number of a local item on a side.
 fn item_on(count: u32, side: Side, item: u32) -> u32
-    requires { (count ≤ most_local_items) × (item < count) }
+    requires { (count ≤ max_local_items) × (item < count) }
     ensures { result ≡ item_on count side item }
 {
     u32::from(side) * count + item
@@ -74,7 +74,7 @@ fn item_on(count: u32, side: Side, item: u32) -> u32
 #[derive(Drop)]
 pub(crate) struct SideRows<'a> {
     words: &'a [u32],
-    told: &'a Told,
+    told: &'a PolicyTable,
     items: u32,
     rows: u32,
     side: Side,
@@ -83,7 +83,7 @@ pub(crate) struct SideRows<'a> {
 }
 
 impl<'a> SideRows<'a> {
-    pub(crate) fn of(words: &'a [u32], told: &'a Told, side: Side) -> SideRows<'a>
+    pub(crate) fn of(words: &'a [u32], told: &'a PolicyTable, side: Side) -> SideRows<'a>
         ensures { (result.words.now ≡ words.now) × (result.told.now ≡ told.now) × (result.side ≡ side) }
     {
         SideRows {
@@ -97,7 +97,7 @@ impl<'a> SideRows<'a> {
 
     // Where a lane leads.
     fn lead(&self, lane: Option<Lane>) -> Option<Side>
-        ensures { result ≡ row_lead (told_by self.now.told.now.leads) self.now.side lane }
+        ensures { result ≡ row_lead (answers_of self.now.told.now.leads) self.now.side lane }
     {
         let (told, side) = (self.told, self.side);
         lane.map_or(Some(side), |lane| told.lead(lane, side))
@@ -105,13 +105,13 @@ impl<'a> SideRows<'a> {
 
     // The rule of a row on this side, with its conclusion on another.
     fn rule_to(&self, row: Row, goal: Side) -> ItemRule
-        requires { in_range self.now.items row.from row.mate row.to ≡ true }
+        requires { in_range self.now.items row.from row.with row.to ≡ true }
         ensures { Some result ≡ rule_to self.now.items self.now.side row (Some goal) }
     {
         let (items, side) = (self.items, self.side);
         ItemRule {
             from: item_on(items, side, row.from),
-            mate: row.mate.map(|mate| item_on(items, side, mate)),
+            with: row.with.map(|with| item_on(items, side, with)),
             to: item_on(items, goal, row.to),
         }
     }
@@ -120,7 +120,7 @@ impl<'a> SideRows<'a> {
 impl RuleRows for SideRows<'_> {
     ghost count = { λ s. s.rows };
 
-    ghost rule = { λ s r. rule_on (told_by s.told.now.leads) s.items s.side (row_in s.items s.rows s.words.now r) };
+    ghost rule = { λ s r. rule_on (answers_of s.told.now.leads) s.items s.side (row_in s.items s.rows s.words.now r) };
 
     fn count(&self) -> u32 {
         self.rows

@@ -2,19 +2,19 @@
 use Rattle.std.proofs.Common.{◌≡◌, ℕ, zero, suc, ◌+◌, ◌*◌, ◌<◌, ◌≤◌, Bool, true, false, cond, List, [], ◌∷◌, ◌++◌, length, drop, is_some, Some, None, Option, sym, refl, ap, ◌∙◌, subst, ⊎_elim, arith, add-one, mul-le-mul_right}
 use Rattle.std.proofs.lemmas.Bool.{cases_lt}
 use Rattle.std.proofs.lemmas.List.Sums.{sum_by-cons}
-use Rattle.rulebook.specs.declared.entries.Entry.{Entry}
-use Rattle.rulebook.specs.declared.entries.Found.{Found}
+use Rattle.rulebook.specs.declared.entries.WatchEntry.{WatchEntry}
+use Rattle.rulebook.specs.declared.entries.RowEntry.{RowEntry}
 use Rattle.rulebook.specs.Tables.{Table, Laws}
 use Rattle.session.specs.declared.trail.TrailRecord.{TrailRecord}
 use Rattle.session.specs.SessionLaw.{entries_below, entries, sum_active}
 use Rattle.session.proofs.Seeks.{Bare, First}
 use Rattle.session.proofs.ActiveSums.{total, sum_active-beyond, sum_active-most}
 
-module _ (entry : ℕ → Option Entry) where
+module _ (entry : ℕ → Option WatchEntry) where
   entries-none : (n : ℕ) → entry n ≡ None → entries_below entry (suc n) ≡ entries_below entry n
   entries-none n h = let z : ◌≡◌ {A = ℕ} (cond (is_some (entry n)) 1 0) 0 = ap (λ o. cond {A = ℕ} (is_some o) 1 0) h in omega arith
 
-  entries-some : (n : ℕ) (e : Entry) → entry n ≡ Some e → entries_below entry (suc n) ≡ entries_below entry n + 1
+  entries-some : (n : ℕ) (e : WatchEntry) → entry n ≡ Some e → entries_below entry (suc n) ≡ entries_below entry n + 1
   entries-some n e h = let z : ◌≡◌ {A = ℕ} (cond (is_some (entry n)) 1 0) 1 = ap (λ o. cond {A = ℕ} (is_some o) 1 0) h in omega arith
 
   pub entries-bare : (r n : ℕ) → r ≤ n → Bare entry r n → entries_below entry n ≡ entries_below entry r
@@ -32,13 +32,13 @@ module _ (entry : ℕ → Option Entry) where
       (cases_lt r (suc n))
 
   -- up to and with the first entry from a row on there is one more
-  pub entries-first : (r n : ℕ) (f : Found) → First entry r n f → entries_below entry (f.row + 1) ≡ entries_below entry r + 1
+  pub entries-first : (r n : ℕ) (f : RowEntry) → First entry r n f → entries_below entry (f.row + 1) ≡ entries_below entry r + 1
   entries-first r n f h =
       ap (entries_below entry) (add-one f.row)
       ∙ entries-some f.row f.entry h.here
       ∙ ap (λ k. k + 1) (entries-bare r f.row h.from h.bare)
 
-  pub entries-first_less : (r n : ℕ) (f : Found) → First entry r n f → entries_below entry r < entries_below entry n
+  pub entries-first_less : (r n : ℕ) (f : RowEntry) → First entry r n f → entries_below entry r < entries_below entry n
   entries-first_less r n f h = omega (arith, entries-first r n f h, entries_mono (f.row + 1) n (omega (arith, h.under)))
 
   pub entries_most : (r : ℕ) → entries_below entry r ≤ r
@@ -75,7 +75,7 @@ module _ (table : Table) where
   before-moved (y ∷ t) (suc p) r x xs d le b = ap (λ k. entries table y.item + k) (before-moved t p r x xs d le b)
 
   -- or past an entry
-  pub before-taken : (t : List TrailRecord) (p r : ℕ) (x : TrailRecord) (xs : List TrailRecord) (f : Found) → drop p t ≡ x ∷ xs →
+  pub before-taken : (t : List TrailRecord) (p r : ℕ) (x : TrailRecord) (xs : List TrailRecord) (f : RowEntry) → drop p t ≡ x ∷ xs →
       First (table.entry x.item) r table.rows f → entries_before table t p (f.row + 1) ≡ entries_before table t p r + 1
   before-taken [] zero r x xs f d h = absurd (cc)
   before-taken [] (suc p) r x xs f d h = absurd (cc)
@@ -85,7 +85,7 @@ module _ (table : Table) where
   before-taken (y ∷ t) (suc p) r x xs f d h = omega (arith, before-taken t p r x xs f d h)
 
   -- before an entry that is due there are fewer than in all
-  pub before_less : (t : List TrailRecord) (p r : ℕ) (x : TrailRecord) (xs : List TrailRecord) (f : Found) → drop p t ≡ x ∷ xs →
+  pub before_less : (t : List TrailRecord) (p r : ℕ) (x : TrailRecord) (xs : List TrailRecord) (f : RowEntry) → drop p t ≡ x ∷ xs →
       First (table.entry x.item) r table.rows f → entries_before table t p r < total (entries table) t
   before_less [] zero r x xs f d h = absurd (cc)
   before_less [] (suc p) r x xs f d h = absurd (cc)
@@ -123,7 +123,7 @@ module _ (table : Table) where
       most : (m : ℕ) → sum_active (entries table) t m ≤ m * table.rows
       most m = sum_active-most (entries table) table.rows (λ i. entries_most (table.entry i) table.rows) t m
 
-      none : (i r : ℕ) → table.items ≤ i → (o : Option Entry) → table.entry i r ≡ o → o ≡ None
+      none : (i r : ℕ) → table.items ≤ i → (o : Option WatchEntry) → table.entry i r ≡ o → o ≡ None
       none i r le None h = refl
       none i r le (Some e) h = absurd (omega (arith, (laws.within i r e h).0))
 

@@ -1,7 +1,7 @@
 -- Rules that have fired: a rule fires once its row is worked from each of its premises.
 use Rattle.std.proofs.Common.{◌≡◌, ℕ, ◌<◌, T, ◌⊎◌, take, drop, Some, None, Option, ap, ◌∙◌, subst, ⊎_elim}
 use Rattle.std.proofs.lemmas.List.{take-append-drop}
-use Rattle.rulebook.specs.declared.entries.Entry.{Entry}
+use Rattle.rulebook.specs.declared.entries.WatchEntry.{WatchEntry}
 use Rattle.rulebook.specs.Tables.{Table, Among, Laws}
 use Rattle.session.specs.Trails.{active}
 use Rattle.session.specs.States.{State}
@@ -9,15 +9,15 @@ use Rattle.session.proofs.TrailFacts.{Active, Head, active-left, active-right, h
 
 -- row r of item i is worked: the item is before the worked place, or at it and the row is before the worked row
 abbrev pub Worked : State → ℕ → ℕ → Type 0
-Worked s r i = T (active (take s.place s.trail) i) ⊎ (Head (drop s.place s.trail) i × (r < s.row))
+Worked s r i = T (active (take s.position s.trail) i) ⊎ (Head (drop s.position s.trail) i × (r < s.row))
 
 abbrev pub Fired : Table → State → Type 0
-Fired table s = (i r : ℕ) (e : Entry) → table.entry i r ≡ Some e → Worked s r i → Among (Worked s r) e.partner → Active s e.conclusion
+Fired table s = (i r : ℕ) (e : WatchEntry) → table.entry i r ≡ Some e → Worked s r i → Among (Worked s r) e.partner → Active s e.conclusion
 
 pub worked-active : (s : State) (r i : ℕ) → Worked s r i → Active s i
 worked-active s r i w =
     let t = s.trail in
-    let p = s.place in
+    let p = s.position in
     subst (λ l. T (active l i)) (take-append-drop p t)
     (⊎_elim (active-left (take p t) (drop p t) i) (λ h. active-right (take p t) (drop p t) i (head-active (drop p t) i h.0)) w)
 
@@ -27,7 +27,7 @@ module _ (table : Table) (laws : Laws table) (s t : State) (n : ℕ) (Fresh : �
     (grows : (i : ℕ) → Active s i → Active t i)
     (news : (r i : ℕ) → Worked t r i → Worked s r i ⊎ ((n ≡ i) × Fresh r))
     (here : Active s n)
-    (fires : (r : ℕ) (e : Entry) → table.entry n r ≡ Some e → Fresh r → Among (Active s) e.partner → Active t e.conclusion)
+    (fires : (r : ℕ) (e : WatchEntry) → table.entry n r ≡ Some e → Fresh r → Among (Active s) e.partner → Active t e.conclusion)
     (fired : Fired table s) where
   was-active : (r i : ℕ) → Worked t r i → Active s i
   was-active r i w = ⊎_elim (worked-active s r i) (λ (z : (n ≡ i) × Fresh r). subst (Active s) z.0 here) (news r i w)

@@ -4,11 +4,11 @@ use Rattle.std.specs.List.{fold}
 use Rattle.std.proofs.lemmas.Bool.{and_parts}
 use Rattle.std.proofs.lemmas.Float.{T_from_true}
 use Rattle.std.proofs.lemmas.List.{drop-append-le}
-use Rattle.rulebook.specs.declared.entries.Found.{Found}
+use Rattle.rulebook.specs.declared.entries.RowEntry.{RowEntry}
 use Rattle.rulebook.specs.Tables.{Table, Among, Laws, seek}
 use Rattle.session.specs.declared.trail.TrailRecord.{TrailRecord}
-use Rattle.session.specs.Trails.{active, granted, cause_of}
-use Rattle.session.specs.States.{State, with_trail, worked, requested_one, requested, all_below, taken, outcome_of, settle_run, fits}
+use Rattle.session.specs.Trails.{active, grants, cause_of}
+use Rattle.session.specs.States.{State, with_trail, with_position, request_one, request_all, all_below, take_entry, outcome_of, settle_run, fits}
 use Rattle.session.specs.Least.{OneOf}
 use Rattle.session.specs.Histories.{Call, request, settle, active as active_call, reason, History, history}
 use Rattle.session.proofs.Pasts.{begun, reported, after_request, after_settle, called, past-history}
@@ -24,17 +24,17 @@ pub record Kept (table : Table) (n : ℕ) (h : History) : Type 0 where
   pub invariant : Invariant table h.accepted h.steps h.state
   pub count : h.state.items ≡ n
   -- while it is settled, no trail item is left
-  pub rests : T h.settled → drop h.state.place h.state.trail ≡ []
+  pub rests : T h.settled → drop h.state.position h.state.trail ≡ []
 
 pub true_from_T : (b : Bool) → T b → b ≡ true
 true_from_T true h = refl
 true_from_T false h = absurd h
 
-granted-from : (s : State) (b : Option ℕ) → Among (Active s) b → granted s.trail b ≡ true
+granted-from : (s : State) (b : Option ℕ) → Among (Active s) b → grants s.trail b ≡ true
 granted-from s None h = refl
 granted-from s (Some b) h = true_from_T (active s.trail b) h
 
-granted-among : (s : State) (b : Option ℕ) → granted s.trail b ≡ true → Among (Active s) b
+granted-among : (s : State) (b : Option ℕ) → grants s.trail b ≡ true → Among (Active s) b
 granted-among s None h = tt
 granted-among s (Some b) h = T_from_true _ h
 
@@ -54,30 +54,30 @@ module _ (table : Table) (laws : Laws table) where
   Settles asked k s = Invariant table asked k s × (table.items ≡ s.items)
 
   moved-keeps : (asked : List ℕ) (k : ℕ) (s : State) (x : TrailRecord) (xs : List TrailRecord) → At s x xs → seek table x.item s.row ≡ None →
-      Settles asked k s → Settles asked k (worked s (s.place + 1) 0)
+      Settles asked k s → Settles asked k (with_position s (s.position + 1) 0)
   moved-keeps asked k s x xs d e v = (record { core = moved-core table laws asked k s x xs d e v.0.core; held = v.0.held }, v.1)
 
-  taken-keeps : (asked : List ℕ) (k : ℕ) (s : State) (x : TrailRecord) (xs : List TrailRecord) (f : Found) → At s x xs → seek table x.item s.row ≡ Some f →
-      Settles asked k s → Settles asked (k + 1) (taken s f)
-  taken-keeps asked k s x xs f d e v = go (granted s.trail f.entry.partner && not (active s.trail f.entry.conclusion)) refl
+  taken-keeps : (asked : List ℕ) (k : ℕ) (s : State) (x : TrailRecord) (xs : List TrailRecord) (f : RowEntry) → At s x xs → seek table x.item s.row ≡ Some f →
+      Settles asked k s → Settles asked (k + 1) (take_entry s f)
+  taken-keeps asked k s x xs f d e v = go (grants s.trail f.entry.partner && not (active s.trail f.entry.conclusion)) refl
     where
       core : Core table asked k s
       core = v.0.core
 
       new : TrailRecord
-      new = record { item = f.entry.conclusion; first = Some s.place; second = cause_of s.trail f.entry.partner }
+      new = record { item = f.entry.conclusion; first = Some s.position; second = cause_of s.trail f.entry.partner }
 
-      go : (b : Bool) → (granted s.trail f.entry.partner && not (active s.trail f.entry.conclusion)) ≡ b →
-          Settles asked (k + 1) (worked (cond b (with_trail s (s.trail ++ new ∷ [])) s) s.place (f.row + 1))
+      go : (b : Bool) → (grants s.trail f.entry.partner && not (active s.trail f.entry.conclusion)) ≡ b →
+          Settles asked (k + 1) (with_position (cond b (with_trail s (s.trail ++ new ∷ [])) s) s.position (f.row + 1))
       go true h =
-          let t = and_not_true (granted s.trail f.entry.partner) (active s.trail f.entry.conclusion) h in
+          let t = and_not_true (grants s.trail f.entry.partner) (active s.trail f.entry.conclusion) h in
           let first = seek-some table x.item s.row f e in
           let derived = derived_by table asked x.item f.row f.entry.partner f.entry.conclusion first.here
           (core.sound x.item (at-active s x xs d))
           (among_map (Active s) (Derived table asked) core.sound f.entry.partner (granted-among s f.entry.partner t.0)) in
           let low : f.entry.conclusion < s.items = subst (λ m. f.entry.conclusion < m) v.1 (laws.below x.item f.row f.entry first.here).0 in
           let pushed = push-core table laws asked k s new derived t.1 low core in
-          let ahead = drop-append-le s.place s.trail (new ∷ []) core.inside ∙ ap (λ l. l ++ new ∷ []) d in (
+          let ahead = drop-append-le s.position s.trail (new ∷ []) core.inside ∙ ap (λ l. l ++ new ∷ []) d in (
             record {
               core = row-core table laws asked k (with_trail s (s.trail ++ new ∷ [])) x (xs ++ new ∷ []) f ahead e
                   (λ _. active-right s.trail (new ∷ []) f.entry.conclusion (active-head new [])) pushed;
@@ -88,14 +88,14 @@ module _ (table : Table) (laws : Laws table) where
       go false h = (
         record {
           core = row-core table laws asked k s x xs f d e
-              (λ a. and_not_false (granted s.trail f.entry.partner) (active s.trail f.entry.conclusion) h (granted-from s f.entry.partner a)) core;
+              (λ a. and_not_false (grants s.trail f.entry.partner) (active s.trail f.entry.conclusion) h (granted-from s f.entry.partner a)) core;
           held = v.0.held;
         },
         v.1,
       )
 
   requested_one-keeps : (asked : List ℕ) (k : ℕ) (s : State) (i : ℕ) → i < s.items → Invariant table asked k s →
-      Invariant table (asked ++ i ∷ []) k (requested_one s i) × ((requested_one s i).items ≡ s.items)
+      Invariant table (asked ++ i ∷ []) k (request_one s i) × ((request_one s i).items ≡ s.items)
   requested_one-keeps asked k s i lt v = go (active s.trail i) refl
     where
       new : TrailRecord
@@ -136,13 +136,13 @@ module _ (table : Table) (laws : Laws table) where
       )
 
   requested-keeps : (asked : List ℕ) (k : ℕ) (is : List ℕ) (s : State) → all_below s.items is ≡ true → Invariant table asked k s →
-      Invariant table (asked ++ is) k (requested is s) × ((requested is s).items ≡ s.items)
+      Invariant table (asked ++ is) k (request_all is s) × ((request_all is s).items ≡ s.items)
   requested-keeps asked k [] s h v = (subst (λ l. Invariant table l k s) (sym (append-nil asked)) v, refl)
   requested-keeps asked k (i ∷ is) s h v =
       let w = and_parts (ltb i s.items) (all_below s.items is) h in
       let one = requested_one-keeps asked k s i (ltb-true i s.items w.0) v in
-      let more = requested-keeps (asked ++ i ∷ []) k is (requested_one s i) (ap (λ n. all_below n is) one.1 ∙ w.1) one.0 in
-      (subst (λ l. Invariant table l k (requested is (requested_one s i))) (append_assoc asked (i ∷ []) is) more.0, more.1 ∙ one.1)
+      let more = requested-keeps (asked ++ i ∷ []) k is (request_one s i) (ap (λ n. all_below n is) one.1 ∙ w.1) one.0 in
+      (subst (λ l. Invariant table l k (request_all is (request_one s i))) (append_assoc asked (i ∷ []) is) more.0, more.1 ∙ one.1)
 
   -- after an accepted settle
   pub settled-ends : (n : ℕ) (h : History) (b : ℕ) → Kept table n h → table.items ≡ h.state.items → let r = settle_run table b h.state in
@@ -152,7 +152,7 @@ module _ (table : Table) (laws : Laws table) where
       let ends = settled-keeps table (Settles h.accepted) (moved-keeps h.accepted) (taken-keeps h.accepted) b h.steps h.state (kept.invariant, same) in
       (subst (λ j. Settles h.accepted (h.steps + j) r.state) (sym (reported-steps table b h.state)) ends.0, ends.1)
 
-  ended-rests : (s : State) (pending : Bool) → Ended table s pending → T (not pending) → drop s.place s.trail ≡ []
+  ended-rests : (s : State) (pending : Bool) → Ended table s pending → T (not pending) → drop s.position s.trail ≡ []
   ended-rests s true e h = absurd h
   ended-rests s false e h = e
 

@@ -8,10 +8,10 @@ use Rattle.session.specs.declared.calls.Answer.{Answer}
 use Rattle.session.specs.declared.calls.Answer.TheVariants as answer
 use Rattle.session.specs.declared.calls.SessionFault.TheVariants as fault
 use Rattle.session.specs.Causes.{Because}
-use Rattle.session.specs.Trails.{active, blank}
+use Rattle.session.specs.Trails.{active, no_record}
 use Rattle.session.specs.States.{State, empty, settle_run, Run, outcome_of, fits}
 use Rattle.session.specs.Least.{Closed}
-use Rattle.session.specs.Histories.{Call, request, settle, active as active_call, reason, answered, left_by, left_by_all, answers_from, History, history}
+use Rattle.session.specs.Histories.{Call, request, settle, active as active_call, reason, call_answer, call_leaves, calls_leave, answers_from, History, history}
 use Rattle.session.specs.SessionLaw.{entries, sum_active, watch_entries, Counted, SessionLaw}
 use Rattle.session.proofs.Seeks.{seek-some}
 use Rattle.session.proofs.TrailFacts.{Active, among_map}
@@ -30,9 +30,9 @@ pub settled-closed : (table : Table) (n : ℕ) (h : History) → Kept table n h 
 settled-closed table n h kept z i r e q a b =
     kept.invariant.core.fired i r e q (inl (all i a)) (among_map (Active h.state) (Worked h.state r) (λ j m. inl (all j m)) e.partner b)
   where
-    all : (j : ℕ) → Active h.state j → T (active (take h.state.place h.state.trail) j)
+    all : (j : ℕ) → Active h.state j → T (active (take h.state.position h.state.trail) j)
     all j m =
-        let p = h.state.place in
+        let p = h.state.position in
         let t = h.state.trail in
         let e : take p t ≡ t = sym (append-nil (take p t)) ∙ ap (λ l. take p t ++ l) (sym (kept.rests z)) ∙ take-append-drop p t in
         subst (λ l. T (active l j)) (sym e) m
@@ -50,17 +50,17 @@ ended-stepped table asked h pending v same = go pending
     watched = ap (sum_active (entries table) h.state.trail) same ∙ v.core.whole (entries table)
 
     go : (b : Bool) → Ended table h.state b → Stepped table h b
-    go false e = v.core.spent ∙ before_all table h.state.trail h.state.place h.state.row e ∙ sym watched
+    go false e = v.core.spent ∙ before_all table h.state.trail h.state.position h.state.row e ∙ sym watched
     go true (f, (x, xs, d, q)) =
-        omega (arith, v.core.spent, watched, before_less table h.state.trail h.state.place h.state.row x xs f d (seek-some table x.item h.state.row f q))
+        omega (arith, v.core.spent, watched, before_less table h.state.trail h.state.position h.state.row x xs f d (seek-some table x.item h.state.row f q))
 
 -- the call that gave an answer, and the calls before it
 answer-call : (table : Table) (s : State) (calls : List Call) (k : ℕ) (a : Answer) → slice_get (answers_from table s calls) k ≡ Some a →
-    (front : List Call) × (c : Call) × (take (suc k) calls ≡ front ++ c ∷ []) × (answered table (left_by_all table s front) c ≡ a)
+    (front : List Call) × (c : Call) × (take (suc k) calls ≡ front ++ c ∷ []) × (call_answer table (calls_leave table s front) c ≡ a)
 answer-call table s [] k a e = absurd (none-some a e)
 answer-call table s (c ∷ cs) zero a e = ([], c, refl, same_Some _ a e)
 answer-call table s (c ∷ cs) (suc k) a e =
-    let more = answer-call table (left_by table s c) cs k a e in
+    let more = answer-call table (call_leaves table s c) cs k a e in
     (c ∷ more.0, more.1, ap (λ l. c ∷ l) more.2, more.3)
 
 module _ (table : Table) (laws : Laws table) where
@@ -72,19 +72,19 @@ module _ (table : Table) (laws : Laws table) where
       ended-stepped table h.accepted (after_settle h b r) r.pending ends.0.0 ends.0.1 ends.1
 
   -- after a call its answer tells of the step sum
-  called-counted : (n : ℕ) (h : History) (c : Call) → Kept table n h → Counted table (called table h c) (answered table h.state c)
+  called-counted : (n : ℕ) (h : History) (c : Call) → Kept table n h → Counted table (called table h c) (call_answer table h.state c)
   called-counted n h (request is) kept = tt
   called-counted n h (active_call i) kept = tt
   called-counted n h (reason i) kept = tt
   called-counted n h (settle b) kept = go (fits table h.state) (settle_run table b h.state) (settle-stepped n h b kept)
     where
       ran : (r : Run) (p : Bool) → let q : Run = record { state = r.state; steps = r.steps; pending = p } in
-          Stepped table (after_settle h b q) p → Counted table (after_settle h b q) (answer.Settled (Ok (outcome_of q)))
+          Stepped table (after_settle h b q) p → Counted table (after_settle h b q) (answer.Settle (Ok (outcome_of q)))
       ran r true z = z
       ran r false z = z
 
       go : (f : Bool) (r : Run) → (f ≡ true → Stepped table (after_settle h b r) r.pending) →
-          Counted table (cond f (after_settle h b r) h) (answer.Settled (cond f (Ok (outcome_of r)) (Err fault.Item)))
+          Counted table (cond f (after_settle h b r) h) (answer.Settle (cond f (Ok (outcome_of r)) (Err fault.Item)))
       go true r z = ran r r.pending (z refl)
       go false r z = tt
 
@@ -94,7 +94,7 @@ module _ (table : Table) (laws : Laws table) where
       let same : history table n (take (k + 1) calls) ≡ called table (history table n front) c =
       ap (λ j. history table n (take j calls)) (add-one k) ∙ ap (history table n) begins ∙ history-push table n front c in
       subst (Counted table (history table n (take (k + 1) calls))) told
-      (subst (λ h. Counted table h (answered table (left_by_all table (empty n) front) c)) (sym same)
+      (subst (λ h. Counted table h (call_answer table (calls_leave table (empty n) front) c)) (sym same)
       (called-counted n (history table n front) c (history-kept table laws n front)))
 
   -- the step sum is at most the number of entries that the table has room for
@@ -102,7 +102,7 @@ module _ (table : Table) (laws : Laws table) where
   steps-most n h kept =
       let c = kept.invariant.core in
       let s = h.state in
-      omega (arith, c.spent, c.whole (entries table), before_most table s.trail s.place s.row c.low, watched_most table laws s.trail s.items)
+      omega (arith, c.spent, c.whole (entries table), before_most table s.trail s.position s.row c.low, watched_most table laws s.trail s.items)
 
 pub session-law : (t : Table) → Laws t → (n : ℕ) (calls : List Call) → SessionLaw t n calls
 session-law t laws n calls =
@@ -112,6 +112,6 @@ session-law t laws n calls =
       sound = λ i a. derived-least t h.accepted i (kept.invariant.core.sound i a);
       complete = λ z i least. least (active h.state.trail) kept.invariant.held (settled-closed t n h kept z);
       counted = answers-counted t laws n calls;
-      reasons = λ k r e. subst (Because t h.state.trail h.accepted k) (get_or_from_slice_get h.state.trail k r blank e) (history-reasons t n calls k (slice_get_within h.state.trail k r e));
+      reasons = λ k r e. subst (Because t h.state.trail h.accepted k) (get_or_from_slice_get h.state.trail k r no_record e) (history-reasons t n calls k (slice_get_within h.state.trail k r e));
       bounded = steps-most t laws n h kept;
     }

@@ -8,8 +8,8 @@ use Rattle.session.specs.declared.calls.Answer.TheVariants as answer
 use Rattle.session.specs.declared.calls.Outcome.{Outcome}
 use Rattle.session.specs.declared.calls.Outcome.TheVariants.{Settled, Pending}
 use Rattle.session.specs.declared.calls.SessionFault.TheVariants as fault
-use Rattle.session.specs.States.{State, empty, requested, all_below, settle_run, Run, outcome_of, fits}
-use Rattle.session.specs.Histories.{Call, request, settle, active, reason, answered, left_by, left_by_all, answers_from, accepted_by, accepted_of, reported_by, settled_by, History, history}
+use Rattle.session.specs.States.{State, empty, request_all, all_below, settle_run, Run, outcome_of, fits}
+use Rattle.session.specs.Histories.{Call, request, settle, active, reason, call_answer, call_leaves, calls_leave, answers_from, accepted_in_call, accepted_items, steps_in_call, settled_after_call, History, history}
 
 abbrev pub begun : ℕ → History
 begun n = record { state = empty n; accepted = []; steps = 0; settled = false }
@@ -20,7 +20,7 @@ reported b (Settled n) = n
 reported b Pending = b
 
 abbrev pub after_request : History → List ℕ → History
-after_request h is = record { state = requested is h.state; accepted = h.accepted ++ is; steps = h.steps; settled = false }
+after_request h is = record { state = request_all is h.state; accepted = h.accepted ++ is; steps = h.steps; settled = false }
 
 abbrev pub after_settle : History → ℕ → Run → History
 after_settle h b r = record { state = r.state; accepted = h.accepted; steps = h.steps + reported b (outcome_of r); settled = not r.pending }
@@ -34,7 +34,7 @@ called t h (reason i) = h
 
 -- what a history is after one call more, which answered so and left this state
 abbrev told_after : History → Call → Answer → State → History
-told_after h c a s = record { state = s; accepted = h.accepted ++ accepted_by c a; steps = h.steps + reported_by c a; settled = settled_by h.settled a }
+told_after h c a s = record { state = s; accepted = h.accepted ++ accepted_in_call c a; steps = h.steps + steps_in_call c a; settled = settled_after_call h.settled a }
 
 module _ (t : Table) where
   same : (h : History) → h ≡ told_after h (active 0) (answer.Active (Err fault.Item)) h.state
@@ -43,20 +43,20 @@ module _ (t : Table) where
       λ i. record { state = h.state; accepted = sym (append-nil h.accepted) i; steps = z i; settled = h.settled }
 
   -- so the answer tells how a call changes a history
-  called-told : (h : History) (c : Call) → called t h c ≡ told_after h c (answered t h.state c) (left_by t h.state c)
+  called-told : (h : History) (c : Call) → called t h c ≡ told_after h c (call_answer t h.state c) (call_leaves t h.state c)
   called-told h (request is) = go (all_below h.state.items is)
     where
-      go : (b : Bool) → cond b (after_request h is) h ≡ told_after h (request is) (answer.Requested (cond b (Ok tt) (Err fault.Item))) (cond b (requested is h.state) h.state)
-      go true = let z : h.steps ≡ h.steps + 0 = omega arith in λ i. record { state = requested is h.state; accepted = h.accepted ++ is; steps = z i; settled = false }
+      go : (b : Bool) → cond b (after_request h is) h ≡ told_after h (request is) (answer.Request (cond b (Ok tt) (Err fault.Item))) (cond b (request_all is h.state) h.state)
+      go true = let z : h.steps ≡ h.steps + 0 = omega arith in λ i. record { state = request_all is h.state; accepted = h.accepted ++ is; steps = z i; settled = false }
       go false = same h
   called-told h (settle b) = go (fits t h.state) (settle_run t b h.state)
     where
       ran : (r : Run) (p : Bool) → let q : Run = record { state = r.state; steps = r.steps; pending = p } in
-          after_settle h b q ≡ told_after h (settle b) (answer.Settled (Ok (outcome_of q))) r.state
+          after_settle h b q ≡ told_after h (settle b) (answer.Settle (Ok (outcome_of q))) r.state
       ran r true = λ i. record { state = r.state; accepted = sym (append-nil h.accepted) i; steps = h.steps + b; settled = false }
       ran r false = λ i. record { state = r.state; accepted = sym (append-nil h.accepted) i; steps = h.steps + r.steps; settled = true }
 
-      go : (f : Bool) (r : Run) → cond f (after_settle h b r) h ≡ told_after h (settle b) (answer.Settled (cond f (Ok (outcome_of r)) (Err fault.Item))) (cond f r.state h.state)
+      go : (f : Bool) (r : Run) → cond f (after_settle h b r) h ≡ told_after h (settle b) (answer.Settle (cond f (Ok (outcome_of r)) (Err fault.Item))) (cond f r.state h.state)
       go true r = ran r r.pending
       go false r = same h
   called-told h (active i) = same h
@@ -65,23 +65,23 @@ module _ (t : Table) where
   -- after some calls
   past-told : (h : History) (calls : List Call) → let answers = answers_from t h.state calls in
       fold (called t) h calls ≡ record {
-        state = left_by_all t h.state calls;
-        accepted = h.accepted ++ accepted_of calls answers;
-        steps = fold (λ x m. x + reported_by m.0 m.1) h.steps (zip calls answers);
-        settled = fold settled_by h.settled answers;
+        state = calls_leave t h.state calls;
+        accepted = h.accepted ++ accepted_items calls answers;
+        steps = fold (λ x m. x + steps_in_call m.0 m.1) h.steps (zip calls answers);
+        settled = fold settled_after_call h.settled answers;
       }
   past-told h [] = λ i. record { state = h.state; accepted = sym (append-nil h.accepted) i; steps = h.steps; settled = h.settled }
   past-told h (c ∷ cs) =
-      let a = answered t h.state c in
-      let s = left_by t h.state c in
+      let a = call_answer t h.state c in
+      let s = call_leaves t h.state c in
       let answers = answers_from t s cs in
       let next = told_after h c a s in
       ap (λ g. fold (called t) g cs) (called-told h c) ∙ past-told next cs
       ∙ (λ i. record {
-        state = left_by_all t s cs;
-        accepted = append_assoc h.accepted (accepted_by c a) (accepted_of cs answers) i;
-        steps = fold (λ x m. x + reported_by m.0 m.1) next.steps (zip cs answers);
-        settled = fold settled_by next.settled answers;
+        state = calls_leave t s cs;
+        accepted = append_assoc h.accepted (accepted_in_call c a) (accepted_items cs answers) i;
+        steps = fold (λ x m. x + steps_in_call m.0 m.1) next.steps (zip cs answers);
+        settled = fold settled_after_call next.settled answers;
       })
 
   pub past-history : (n : ℕ) (calls : List Call) → fold (called t) (begun n) calls ≡ history t n calls

@@ -5,14 +5,14 @@ use Rattle.std.proofs.lemmas.Bool.{cases_lt}
 use Rattle.std.proofs.lemmas.List.{length-append, get_or_append_left}
 use Rattle.std.proofs.lemmas.Option.{none-some, same_Some}
 use Rattle.std.proofs.Math.Seq.{get_or-append_seam}
-use Rattle.rulebook.specs.declared.entries.Found.{Found}
+use Rattle.rulebook.specs.declared.entries.RowEntry.{RowEntry}
 use Rattle.rulebook.specs.Tables.{Table, seek}
 use Rattle.session.specs.declared.trail.TrailRecord.{TrailRecord}
 use Rattle.session.specs.Causes.{item_at, Because, asked_for, by_one, by_two}
 use Rattle.session.specs.Histories.{Call, request, settle, active as active_call, reason, History, history}
 use Rattle.session.specs.Least.{OneOf}
-use Rattle.session.specs.States.{State, with_trail, requested_one, requested, all_below, taken, settle_run, fits}
-use Rattle.session.specs.Trails.{active, later, find, granted, cause_of, blank}
+use Rattle.session.specs.States.{State, with_trail, request_one, request_all, all_below, take_entry, settle_run, fits}
+use Rattle.session.specs.Trails.{active, later, find, grants, cause_of, no_record}
 use Rattle.session.proofs.Derivations.{one-left, one-right}
 use Rattle.session.proofs.Finding.{found-active, found-within}
 use Rattle.session.proofs.Kept.{and_not_true}
@@ -44,73 +44,73 @@ module _ (table : Table) where
       Because table trail asked k r → Because table (trail ++ more) wide k r
   because-more trail more asked wide k _ l h (asked_for {i = i} o) = asked_for (h i o)
   because-more trail more asked wide k _ l h (by_one {i = i} {c = c} {row = row} older e) =
-      by_one older (ap (λ (r : TrailRecord). table.entry r.item row) (get_or_append_left trail more blank c (omega arith)) ∙ e)
+      by_one older (ap (λ (r : TrailRecord). table.entry r.item row) (get_or_append_left trail more no_record c (omega arith)) ∙ e)
   because-more trail more asked wide k _ l h (by_two {i = i} {c = c} {d = d} {row = row} older also e) =
-      by_two older also (ap (λ (r : TrailRecord). table.entry r.item row) (get_or_append_left trail more blank c (omega arith)) ∙ e
-      ∙ ap (λ (r : TrailRecord). Some (record { partner = Some r.item; conclusion = i })) (sym (get_or_append_left trail more blank d (omega arith))))
+      by_two older also (ap (λ (r : TrailRecord). table.entry r.item row) (get_or_append_left trail more no_record c (omega arith)) ∙ e
+      ∙ ap (λ (r : TrailRecord). Some (record { partner = Some r.item; conclusion = i })) (sym (get_or_append_left trail more no_record d (omega arith))))
 
   -- each record of a trail stands there for a reason
   abbrev pub Reasons : List ℕ → List TrailRecord → Type 0
-  Reasons asked trail = (k : ℕ) → k < length trail → Because table trail asked k (get_or trail k blank)
+  Reasons asked trail = (k : ℕ) → k < length trail → Because table trail asked k (get_or trail k no_record)
 
   more-reasons : (asked wide : List ℕ) (trail : List TrailRecord) → ((i : ℕ) → OneOf asked i → OneOf wide i) → Reasons asked trail → Reasons wide trail
   more-reasons asked wide trail h reasons k l =
       let m : k ≤ length trail = omega arith in
-      subst (λ t. Because table t wide k (get_or trail k blank)) (append-nil trail)
-      (because-more trail [] asked wide k (get_or trail k blank) m h (reasons k l))
+      subst (λ t. Because table t wide k (get_or trail k no_record)) (append-nil trail)
+      (because-more trail [] asked wide k (get_or trail k no_record) m h (reasons k l))
 
   -- one record more
   push-reasons : (asked : List ℕ) (trail : List TrailRecord) (x : TrailRecord) → Because table trail asked (length trail) x → Reasons asked trail → Reasons asked (trail ++ x ∷ [])
   push-reasons asked trail x because reasons k l = ⊎_elim
       (λ (w : k < length trail).
       let m : k ≤ length trail = omega arith in
-      subst (Because table (trail ++ x ∷ []) asked k) (sym (get_or_append_left trail (x ∷ []) blank k w))
-      (because-more trail (x ∷ []) asked asked k (get_or trail k blank) m (λ i o. o) (reasons k w)))
+      subst (Because table (trail ++ x ∷ []) asked k) (sym (get_or_append_left trail (x ∷ []) no_record k w))
+      (because-more trail (x ∷ []) asked asked k (get_or trail k no_record) m (λ i o. o) (reasons k w)))
       (λ (w : length trail ≤ k).
       let z : length trail ≡ k = omega (arith, l, length-append trail (x ∷ [])) in
       let m : length trail ≤ length trail = omega arith in
-      subst (λ j. Because table (trail ++ x ∷ []) asked j (get_or (trail ++ x ∷ []) j blank)) z
-      (subst (Because table (trail ++ x ∷ []) asked (length trail)) (sym (get_or-append_seam trail x [] blank))
+      subst (λ j. Because table (trail ++ x ∷ []) asked j (get_or (trail ++ x ∷ []) j no_record)) z
+      (subst (Because table (trail ++ x ∷ []) asked (length trail)) (sym (get_or-append_seam trail x [] no_record))
       (because-more trail (x ∷ []) asked asked (length trail) x m (λ i o. o) because)))
       (cases_lt k (length trail))
 
   -- an entry of the worked item is taken
-  taken-reasons : (asked : List ℕ) (s : State) (x : TrailRecord) (xs : List TrailRecord) (f : Found) → At s x xs → seek table x.item s.row ≡ Some f →
-      Reasons asked s.trail → Reasons asked (taken s f).trail
-  taken-reasons asked s x xs f d e reasons = go (granted s.trail f.entry.partner && not (active s.trail f.entry.conclusion)) refl
+  taken-reasons : (asked : List ℕ) (s : State) (x : TrailRecord) (xs : List TrailRecord) (f : RowEntry) → At s x xs → seek table x.item s.row ≡ Some f →
+      Reasons asked s.trail → Reasons asked (take_entry s f).trail
+  taken-reasons asked s x xs f d e reasons = go (grants s.trail f.entry.partner && not (active s.trail f.entry.conclusion)) refl
     where
-      inside : s.place < length s.trail
+      inside : s.position < length s.trail
       inside = at-inside s x xs d
 
-      worked : item_at s.trail s.place ≡ x.item
-      worked = at-item s.place s.trail x xs d
+      worked : item_at s.trail s.position ≡ x.item
+      worked = at-item s.position s.trail x xs d
 
-      why : (b : Option ℕ) (c : ℕ) → table.entry x.item f.row ≡ Some (record { partner = b; conclusion = c }) → granted s.trail b ≡ true →
-          Because table s.trail asked (length s.trail) (record { item = c; first = Some s.place; second = cause_of s.trail b })
+      why : (b : Option ℕ) (c : ℕ) → table.entry x.item f.row ≡ Some (record { partner = b; conclusion = c }) → grants s.trail b ≡ true →
+          Because table s.trail asked (length s.trail) (record { item = c; first = Some s.position; second = cause_of s.trail b })
       why None c q g = by_one inside (ap (λ j. table.entry j f.row) worked ∙ q)
       why (Some b) c q g = found (find s.trail b) refl
         where
-          found : (o : Option ℕ) → find s.trail b ≡ o → Because table s.trail asked (length s.trail) (record { item = c; first = Some s.place; second = o })
+          found : (o : Option ℕ) → find s.trail b ≡ o → Because table s.trail asked (length s.trail) (record { item = c; first = Some s.position; second = o })
           found None z = absurd (let y : false ≡ true = sym (ap is_some z) ∙ found-active s.trail b ∙ g in cc)
           found (Some k) z =
               by_two inside (found-within s.trail b k z)
               (ap (λ j. table.entry j f.row) worked ∙ q ∙ ap (λ j. Some (record { partner = Some j; conclusion = c })) (sym (found-item s.trail b k z)))
 
       new : TrailRecord
-      new = record { item = f.entry.conclusion; first = Some s.place; second = cause_of s.trail f.entry.partner }
+      new = record { item = f.entry.conclusion; first = Some s.position; second = cause_of s.trail f.entry.partner }
 
-      go : (b : Bool) → (granted s.trail f.entry.partner && not (active s.trail f.entry.conclusion)) ≡ b → Reasons asked (cond b (with_trail s (s.trail ++ new ∷ [])) s).trail
+      go : (b : Bool) → (grants s.trail f.entry.partner && not (active s.trail f.entry.conclusion)) ≡ b → Reasons asked (cond b (with_trail s (s.trail ++ new ∷ [])) s).trail
       go true h =
           push-reasons asked s.trail new
           (why f.entry.partner f.entry.conclusion (seek-some table x.item s.row f e).here
-          (and_not_true (granted s.trail f.entry.partner) (active s.trail f.entry.conclusion) h).0)
+          (and_not_true (grants s.trail f.entry.partner) (active s.trail f.entry.conclusion) h).0)
           reasons
       go false h = reasons
 
   -- items that were asked for join
-  requested-reasons : (asked is : List ℕ) (s : State) → ((i : ℕ) → OneOf is i → OneOf asked i) → Reasons asked s.trail → Reasons asked (requested is s).trail
+  requested-reasons : (asked is : List ℕ) (s : State) → ((i : ℕ) → OneOf is i → OneOf asked i) → Reasons asked s.trail → Reasons asked (request_all is s).trail
   requested-reasons asked [] s h reasons = reasons
-  requested-reasons asked (i ∷ is) s h reasons = requested-reasons asked is (requested_one s i) (λ j o. h j (inr o)) (go (active s.trail i))
+  requested-reasons asked (i ∷ is) s h reasons = requested-reasons asked is (request_one s i) (λ j o. h j (inr o)) (go (active s.trail i))
     where
       go : (b : Bool) → Reasons asked (cond b s (with_trail s (s.trail ++ record { item = i; first = None; second = None } ∷ []))).trail
       go true = reasons

@@ -7,11 +7,11 @@ use Rattle.std.proofs.lemmas.List.Folds.{Any-from_list_any}
 use Rattle.std.proofs.lemmas.Map.Keys.{IsDistinct-from_apart}
 use Rattle.std.proofs.lemmas.Map.Steps.{length-le_from_distinct_below}
 use Rattle.session.specs.declared.trail.TrailRecord.{TrailRecord}
-use Rattle.session.specs.Trails.{active, later, find, blank, Below, Apart, FirstOlder, SecondOlder}
+use Rattle.session.specs.Trails.{active, later, find, no_record, Below, Apart, FirstOlder, SecondOlder}
 use Rattle.session.proofs.Finding.{Older}
 
 -- a record of a trail on which an item is not active is of another item
-pub other-item : (t : List TrailRecord) (i k : ℕ) → active t i ≡ false → k < length t → (get_or t k blank).item ≡ i → ⊥
+pub other-item : (t : List TrailRecord) (i k : ℕ) → active t i ≡ false → k < length t → (get_or t k no_record).item ≡ i → ⊥
 other-item [] i k off l e = omega arith
 other-item (r ∷ t) i zero off l e = eqb-false r.item i (or_parts (eqb r.item i) (active t i) off).0 e
 other-item (r ∷ t) i (suc k) off l e = other-item t i k (or_parts (eqb r.item i) (active t i) off).1 (omega arith) e
@@ -37,11 +37,11 @@ module _ (n : ℕ) (t : List TrailRecord) (x : TrailRecord) (low : x.item < n) (
   size : length after ≡ length t + 1
   size = length-append t (x ∷ [])
 
-  old : (k : ℕ) → k < length t → get_or after k blank ≡ get_or t k blank
-  old k l = get_or_append_left t (x ∷ []) blank k l
+  old : (k : ℕ) → k < length t → get_or after k no_record ≡ get_or t k no_record
+  old k l = get_or_append_left t (x ∷ []) no_record k l
 
-  new : (k : ℕ) → k ≡ length t → get_or after k blank ≡ x
-  new k e = ap (λ j. get_or after j blank) e ∙ get_or-append_seam t x [] blank
+  new : (k : ℕ) → k ≡ length t → get_or after k no_record ≡ x
+  new k e = ap (λ j. get_or after j no_record) e ∙ get_or-append_seam t x [] no_record
 
   -- a record of the longer trail is an older one, or the last
   either : (k : ℕ) → k < length after → (k < length t) ⊎ (k ≡ length t)
@@ -76,7 +76,7 @@ pub at-most : (n : ℕ) (t : List TrailRecord) → Below n t → Apart t → len
 at-most n t below apart =
     let items = map (λ (r : TrailRecord). r.item) t in
     let m : length items ≡ length t = length-map t (λ (r : TrailRecord). r.item) in
-    let at : (k d : ℕ) → k < length items → get_or items k d ≡ (get_or t k blank).item = λ k d l. get_or-map (λ (r : TrailRecord). r.item) t k blank d (omega (arith, m)) in
+    let at : (k d : ℕ) → k < length items → get_or items k d ≡ (get_or t k no_record).item = λ k d l. get_or-map (λ (r : TrailRecord). r.item) t k no_record d (omega (arith, m)) in
     let distinct = IsDistinct-from_apart eqb items (λ i j d o l.
     let u : i < length items = omega arith in
     let v : j < length t = omega (arith, m) in
@@ -84,7 +84,7 @@ at-most n t below apart =
     let few = length-le_from_distinct_below items n distinct (λ q h.
     let y = Any-from_list_any (eqb q) items h in
     let w : y.0 < length t = omega (arith, y.2, m) in
-    let e : (get_or t y.0 blank).item ≡ q = sym (at y.0 y.1 y.2) ∙ y.3 ∙ sym (eqb-true q _ y.4) in
+    let e : (get_or t y.0 no_record).item ≡ q = sym (at y.0 y.1 y.2) ∙ y.3 ∙ sym (eqb-true q _ y.4) in
     subst (λ i. i < n) e (below y.0 w)) in
     omega (arith, few, m)
 

@@ -85,14 +85,14 @@ Active s i = T (active s.trail i)
 
 -- the worked place is at x, with xs behind it
 abbrev pub At : State → TrailRecord → List TrailRecord → Type 0
-At s x xs = drop s.place s.trail ≡ x ∷ xs
+At s x xs = drop s.position s.trail ≡ x ∷ xs
 
 pub at-active : (s : State) (x : TrailRecord) (xs : List TrailRecord) → At s x xs → Active s x.item
-at-active s x xs d = subst (λ l. T (active l x.item)) (take-append-drop s.place s.trail)
-    (active-right (take s.place s.trail) (drop s.place s.trail) x.item (subst (λ l. T (active l x.item)) (sym d) (active-head x xs)))
+at-active s x xs d = subst (λ l. T (active l x.item)) (take-append-drop s.position s.trail)
+    (active-right (take s.position s.trail) (drop s.position s.trail) x.item (subst (λ l. T (active l x.item)) (sym d) (active-head x xs)))
 
-pub at-inside : (s : State) (x : TrailRecord) (xs : List TrailRecord) → At s x xs → s.place < length s.trail
-at-inside s x xs d = omega (arith, length-drop s.place s.trail, ap length d)
+pub at-inside : (s : State) (x : TrailRecord) (xs : List TrailRecord) → At s x xs → s.position < length s.trail
+at-inside s x xs d = omega (arith, length-drop s.position s.trail, ap length d)
 
 -- what holds of all X holds of a partner among them
 pub among_map : (X Y : ℕ → Type 0) → ((i : ℕ) → X i → Y i) → (b : Option ℕ) → Among X b → Among Y b

@@ -2,12 +2,12 @@
 use Rattle.std.specs.Prelude.{◌≡◌, ℕ, ◌<◌, List, Some, None, slice_index_or}
 use Rattle.rulebook.specs.Tables.{Table, pair}
 use Rattle.session.specs.declared.trail.TrailRecord.{TrailRecord}
-use Rattle.session.specs.Trails.{blank}
+use Rattle.session.specs.Trails.{no_record}
 use Rattle.session.specs.Least.{OneOf}
 
 -- the item at a trail number
 abbrev pub item_at : List TrailRecord → ℕ → ℕ
-item_at trail k = (slice_index_or trail k blank).item
+item_at trail k = (slice_index_or trail k no_record).item
 
 -- why a record stands at trail number k, if these items were asked for
 pub data Because (t : Table) (trail : List TrailRecord) (asked : List ℕ) (k : ℕ) : TrailRecord → Type 0 where

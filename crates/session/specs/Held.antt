@@ -9,7 +9,7 @@ abbrev pub trail_of : Session → List TrailRecord
 trail_of s = take s.trail.len s.trail.places.now
 
 abbrev pub state : Session → State
-state s = record { items = s.items; trail = trail_of s; place = s.place; row = s.row }
+state s = record { items = s.items; trail = trail_of s; position = s.position; row = s.row }
 
 -- session s is what a call made of session u: the item count and the memory are the same, the trail is no shorter, and the
 -- places beyond the trail and the marks from the item count on are as they were

@@ -24,54 +24,54 @@ call_view (variant.Active i) = active i
 call_view (variant.Reason i) = reason i
 
 -- what a call answers in a state, and what it leaves
-abbrev pub answered : Table → State → Call → Answer
-answered t s (request is) = answer.Requested (request_answer s is)
-answered t s (settle b) = answer.Settled (settle_answer t b s)
-answered t s (active i) = answer.Active (active_answer s i)
-answered t s (reason i) = answer.Reason (reason_answer s i)
+abbrev pub call_answer : Table → State → Call → Answer
+call_answer t s (request is) = answer.Request (request_answer s is)
+call_answer t s (settle b) = answer.Settle (settle_answer t b s)
+call_answer t s (active i) = answer.Active (active_answer s i)
+call_answer t s (reason i) = answer.Reason (reason_answer s i)
 
-abbrev pub left_by : Table → State → Call → State
-left_by t s (request is) = request_leaves s is
-left_by t s (settle b) = settle_leaves t b s
-left_by t s (active i) = s
-left_by t s (reason i) = s
+abbrev pub call_leaves : Table → State → Call → State
+call_leaves t s (request is) = request_leaves s is
+call_leaves t s (settle b) = settle_leaves t b s
+call_leaves t s (active i) = s
+call_leaves t s (reason i) = s
 
 -- what some calls leave, and what each of them answers, from a state on
-abbrev pub left_by_all : Table → State → List Call → State
-left_by_all t s calls = fold (left_by t) s calls
+abbrev pub calls_leave : Table → State → List Call → State
+calls_leave t s calls = fold (call_leaves t) s calls
 
 abbrev pub answers_from : Table → State → List Call → List Answer
 answers_from t s [] = []
-answers_from t s (c ∷ cs) = answered t s c ∷ answers_from t (left_by t s c) cs
+answers_from t s (c ∷ cs) = call_answer t s c ∷ answers_from t (call_leaves t s c) cs
 
 -- What calls and their answers tell:
 
 -- the items of the requests that were accepted;
-abbrev pub accepted_by : Call → Answer → List ℕ
-accepted_by (request is) (answer.Requested (Ok u)) = is
-accepted_by _ _ = []
+abbrev pub accepted_in_call : Call → Answer → List ℕ
+accepted_in_call (request is) (answer.Request (Ok u)) = is
+accepted_in_call _ _ = []
 
-abbrev pub accepted_of : List Call → List Answer → List ℕ
-accepted_of calls answers = flat_map (λ m. accepted_by m.0 m.1) (zip calls answers)
+abbrev pub accepted_items : List Call → List Answer → List ℕ
+accepted_items calls answers = flat_map (λ m. accepted_in_call m.0 m.1) (zip calls answers)
 
 -- the sum of the steps that settle reported: "pending" reports the budget;
-abbrev pub reported_by : Call → Answer → ℕ
-reported_by (settle b) (answer.Settled (Ok (Settled n))) = n
-reported_by (settle b) (answer.Settled (Ok Pending)) = b
-reported_by _ _ = 0
+abbrev pub steps_in_call : Call → Answer → ℕ
+steps_in_call (settle b) (answer.Settle (Ok (Settled n))) = n
+steps_in_call (settle b) (answer.Settle (Ok Pending)) = b
+steps_in_call _ _ = 0
 
 abbrev pub step_sum : List Call → List Answer → ℕ
-step_sum calls answers = sum_by (λ m. reported_by m.0 m.1) (zip calls answers)
+step_sum calls answers = sum_by (λ m. steps_in_call m.0 m.1) (zip calls answers)
 
 -- and whether a session is settled: from an answer "nothing pending" until an accepted request, or an answer "pending"
-abbrev pub settled_by : Bool → Answer → Bool
-settled_by before (answer.Settled (Ok (Settled n))) = true
-settled_by before (answer.Settled (Ok Pending)) = false
-settled_by before (answer.Requested (Ok u)) = false
-settled_by before _ = before
+abbrev pub settled_after_call : Bool → Answer → Bool
+settled_after_call before (answer.Settle (Ok (Settled n))) = true
+settled_after_call before (answer.Settle (Ok Pending)) = false
+settled_after_call before (answer.Request (Ok u)) = false
+settled_after_call before _ = before
 
-abbrev pub settled_of : List Answer → Bool
-settled_of answers = fold settled_by false answers
+abbrev pub settled_after : List Answer → Bool
+settled_after answers = fold settled_after_call false answers
 
 -- what some calls leave, and what they and their answers tell
 pub record History : Type 0 where
@@ -84,13 +84,13 @@ pub record History : Type 0 where
 abbrev pub history : Table → ℕ → List Call → History
 history t n calls =
     let answers = answers_from t (empty n) calls in
-    record { state = left_by_all t (empty n) calls; accepted = accepted_of calls answers; steps = step_sum calls answers; settled = settled_of answers }
+    record { state = calls_leave t (empty n) calls; accepted = accepted_items calls answers; steps = step_sum calls answers; settled = settled_after answers }
 
 -- A caller that chooses each call in view of the earlier answers, the newest last.
 abbrev pub Chooser : Type 0
 Chooser = List Answer → Call
 
 -- the first k calls that it makes
-abbrev pub chosen : Table → ℕ → Chooser → ℕ → List Call
-chosen t n choose zero = []
-chosen t n choose (suc k) = chosen t n choose k ++ choose (answers_from t (empty n) (chosen t n choose k)) ∷ []
+abbrev pub first_calls : Table → ℕ → Chooser → ℕ → List Call
+first_calls t n choose zero = []
+first_calls t n choose (suc k) = first_calls t n choose k ++ choose (answers_from t (empty n) (first_calls t n choose k)) ∷ []

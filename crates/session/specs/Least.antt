@@ -1,6 +1,6 @@
 -- The least set of some items by the rules of a table.
 use Rattle.std.specs.Prelude.{◌≡◌, ℕ, Bool, T, ◌⊎◌, List, [], ◌∷◌, Some}
-use Rattle.rulebook.specs.declared.entries.Entry.{Entry}
+use Rattle.rulebook.specs.declared.entries.WatchEntry.{WatchEntry}
 use Rattle.rulebook.specs.Tables.{Table, Among}
 
 -- i is one of these
@@ -10,7 +10,7 @@ OneOf (x ∷ xs) i = (x ≡ i) ⊎ OneOf xs i
 
 -- X holds the conclusion of each rule whose premises it holds
 abbrev pub Closed : Table → (ℕ → Type 0) → Type 0
-Closed t X = (i r : ℕ) (e : Entry) → t.entry i r ≡ Some e → X i → Among X e.partner → X e.conclusion
+Closed t X = (i r : ℕ) (e : WatchEntry) → t.entry i r ≡ Some e → X i → Among X e.partner → X e.conclusion
 
 -- the items in every set that holds those asked for and the conclusion of each rule whose premises it holds
 abbrev pub Least : Table → List ℕ → ℕ → Type 0

@@ -1,6 +1,6 @@
 -- The law of sessions, as far as it is about one rulebook.
 use Rattle.std.specs.Prelude.{◌≡◌, ℕ, zero, suc, ◌+◌, ◌*◌, ◌<◌, ◌≤◌, cond, T, List, take, is_some, Ok, Some, Option, slice_get}
-use Rattle.rulebook.specs.declared.entries.Entry.{Entry}
+use Rattle.rulebook.specs.declared.entries.WatchEntry.{WatchEntry}
 use Rattle.rulebook.specs.Tables.{Table}
 use Rattle.session.specs.declared.calls.Answer.{Answer}
 use Rattle.session.specs.declared.calls.Answer.TheVariants as answer
@@ -16,7 +16,7 @@ abbrev pub Active : History → ℕ → Type 0
 Active h i = T (active h.state.trail i)
 
 -- how many of the first rows have an entry; the watch entries of an item, over all rows
-abbrev pub entries_below : (ℕ → Option Entry) → ℕ → ℕ
+abbrev pub entries_below : (ℕ → Option WatchEntry) → ℕ → ℕ
 entries_below entry zero = 0
 entries_below entry (suc r) = entries_below entry r + cond (is_some (entry r)) 1 0
 
@@ -35,8 +35,8 @@ watch_entries t s = sum_active (entries t) s.trail t.items
 -- the step sum after a call, by what it answered: with nothing pending it is the number of watch entries of the active
 -- items, with something pending it is less; any other answer says nothing of it
 abbrev pub Counted : Table → History → Answer → Type 0
-Counted t h (answer.Settled (Ok (Settled n))) = h.steps ≡ watch_entries t h.state
-Counted t h (answer.Settled (Ok Pending)) = h.steps < watch_entries t h.state
+Counted t h (answer.Settle (Ok (Settled n))) = h.steps ≡ watch_entries t h.state
+Counted t h (answer.Settle (Ok Pending)) = h.steps < watch_entries t h.state
 Counted t h _ = Unit {0}
 
 -- after some calls on a new session with n items:

@@ -1,52 +1,52 @@
 -- What a session holds, and what the calls make of it.
 use Rattle.std.specs.Prelude.{ℕ, zero, suc, ◌+◌, Bool, true, false, cond, not, ◌&&◌, List, [], ◌∷◌, ◌++◌, drop, Some, None, Ok, Err, Option, Result, ◌==◌, nat_le, nat_lt, slice_index_or}
-use Rattle.rulebook.specs.declared.entries.Entry.{Entry}
-use Rattle.rulebook.specs.declared.entries.Found.{Found}
-use Rattle.rulebook.specs.Tables.{Table, seek, most_items}
+use Rattle.rulebook.specs.declared.entries.WatchEntry.{WatchEntry}
+use Rattle.rulebook.specs.declared.entries.RowEntry.{RowEntry}
+use Rattle.rulebook.specs.Tables.{Table, seek, max_items}
 use Rattle.session.specs.declared.trail.TrailRecord.{TrailRecord}
 use Rattle.session.specs.declared.calls.SessionFault.{SessionFault}
 use Rattle.session.specs.declared.calls.SessionFault.TheVariants as fault
 use Rattle.session.specs.declared.calls.Outcome.{Outcome}
 use Rattle.session.specs.declared.calls.Outcome.TheVariants.{Settled, Pending}
 use Rattle.session.specs.declared.calls.Reason.{Reason}
-use Rattle.session.specs.Trails.{active, find, granted, cause_of, blank}
+use Rattle.session.specs.Trails.{active, find, grants, cause_of, no_record}
 
 -- the item count, the trail, and the worked place: a trail number and a row
 pub record State : Type 0 where
   pub items : ℕ
   pub trail : List TrailRecord
-  pub place : ℕ
+  pub position : ℕ
   pub row : ℕ
 
 abbrev pub with_trail : State → List TrailRecord → State
-with_trail s t = record { items = s.items; trail = t; place = s.place; row = s.row }
+with_trail s t = record { items = s.items; trail = t; position = s.position; row = s.row }
 
-abbrev pub worked : State → ℕ → ℕ → State
-worked s k r = record { items = s.items; trail = s.trail; place = k; row = r }
+abbrev pub with_position : State → ℕ → ℕ → State
+with_position s k r = record { items = s.items; trail = s.trail; position = k; row = r }
 
 -- Opening: the check, and a new session; a refused case has no items
 
-abbrev pub check_opening : ℕ → ℕ → ℕ → Result (Unit {0}) SessionFault
-check_opening n places marks = cond (nat_le n places && nat_le n marks) (cond (nat_le n most_items) (Ok tt) (Err fault.Item)) (Err fault.Memory)
+abbrev pub check_answer : ℕ → ℕ → ℕ → Result (Unit {0}) SessionFault
+check_answer n places marks = cond (nat_le n places && nat_le n marks) (cond (nat_le n max_items) (Ok tt) (Err fault.Item)) (Err fault.Memory)
 
 abbrev pub items_after : ℕ → Result (Unit {0}) SessionFault → ℕ
 items_after n (Ok u) = n
 items_after n (Err e) = 0
 
 abbrev pub empty : ℕ → State
-empty n = record { items = n; trail = []; place = 0; row = 0 }
+empty n = record { items = n; trail = []; position = 0; row = 0 }
 
-abbrev pub opened : ℕ → ℕ → ℕ → State
-opened n places marks = empty (items_after n (check_opening n places marks))
+abbrev pub open_session : ℕ → ℕ → ℕ → State
+open_session n places marks = empty (items_after n (check_answer n places marks))
 
 -- Request: those not yet active join the trail, in list order, without causes
 
-abbrev pub requested_one : State → ℕ → State
-requested_one s i = cond (active s.trail i) s (with_trail s (s.trail ++ record { item = i; first = None; second = None } ∷ []))
+abbrev pub request_one : State → ℕ → State
+request_one s i = cond (active s.trail i) s (with_trail s (s.trail ++ record { item = i; first = None; second = None } ∷ []))
 
-abbrev pub requested : List ℕ → State → State
-requested [] s = s
-requested (i ∷ is) s = requested is (requested_one s i)
+abbrev pub request_all : List ℕ → State → State
+request_all [] s = s
+request_all (i ∷ is) s = request_all is (request_one s i)
 
 abbrev pub all_below : ℕ → List ℕ → Bool
 all_below n [] = true
@@ -56,20 +56,20 @@ abbrev pub request_answer : State → List ℕ → Result (Unit {0}) SessionFaul
 request_answer s is = cond (all_below s.items is) (Ok tt) (Err fault.Item)
 
 abbrev pub request_leaves : State → List ℕ → State
-request_leaves s is = cond (all_below s.items is) (requested is s) s
+request_leaves s is = cond (all_below s.items is) (request_all is s) s
 
 -- Settle
 
 -- the conclusion of an entry joins the trail if its premises are active and it is not
-abbrev pub concluded : State → Entry → State
-concluded s e =
-    cond (granted s.trail e.partner && not (active s.trail e.conclusion))
-    (with_trail s (s.trail ++ record { item = e.conclusion; first = Some s.place; second = cause_of s.trail e.partner } ∷ []))
+abbrev pub conclude : State → WatchEntry → State
+conclude s e =
+    cond (grants s.trail e.partner && not (active s.trail e.conclusion))
+    (with_trail s (s.trail ++ record { item = e.conclusion; first = Some s.position; second = cause_of s.trail e.partner } ∷ []))
     s
 
 -- an entry of the worked item is taken
-abbrev pub taken : State → Found → State
-taken s f = worked (concluded s f.entry) s.place (f.row + 1)
+abbrev pub take_entry : State → RowEntry → State
+take_entry s f = with_position (conclude s f.entry) s.position (f.row + 1)
 
 -- the item at the worked place, if a trail item is left
 abbrev pub item_of : List TrailRecord → Option ℕ
@@ -77,24 +77,24 @@ item_of [] = None
 item_of (r ∷ rs) = Some r.item
 
 abbrev pub worked_item : State → Option ℕ
-worked_item s = item_of (drop s.place s.trail)
+worked_item s = item_of (drop s.position s.trail)
 
 -- what comes next: no trail item is left, or an entry is due
 pub data Next : Type 0 where
   rest : State → Next
-  due : State → Found → Next
+  due : State → RowEntry → Next
 
 -- where seek answers none, the worked place moves to the next trail item
-abbrev pub or_next : Option Found → State → Next → Next
+abbrev pub or_next : Option RowEntry → State → Next → Next
 or_next None s later = later
 or_next (Some f) s later = due s f
 
 abbrev pub next_among : Table → List TrailRecord → State → Next
 next_among t [] s = rest s
-next_among t (r ∷ rs) s = or_next (seek t r.item s.row) s (next_among t rs (worked s (s.place + 1) 0))
+next_among t (r ∷ rs) s = or_next (seek t r.item s.row) s (next_among t rs (with_position s (s.position + 1) 0))
 
 abbrev pub next : Table → State → Next
-next t s = next_among t (drop s.place s.trail) s
+next t s = next_among t (drop s.position s.trail) s
 
 -- how settling ends: the state, how many entries were taken, and whether one is due
 pub record Run : Type 0 where
@@ -102,23 +102,23 @@ pub record Run : Type 0 where
   pub steps : ℕ
   pub pending : Bool
 
-abbrev pub one_more : Run → Run
-one_more r = record { state = r.state; steps = r.steps + 1; pending = r.pending }
+abbrev pub one_step_more : Run → Run
+one_step_more r = record { state = r.state; steps = r.steps + 1; pending = r.pending }
 
 -- the budget is spent
-abbrev pub halted : Next → Run
-halted (rest s) = record { state = s; steps = 0; pending = false }
-halted (due s f) = record { state = s; steps = 0; pending = true }
+abbrev pub halt : Next → Run
+halt (rest s) = record { state = s; steps = 0; pending = false }
+halt (due s f) = record { state = s; steps = 0; pending = true }
 
 -- one step, and then more
-abbrev pub stepped : (State → Run) → Next → Run
-stepped more (rest s) = record { state = s; steps = 0; pending = false }
-stepped more (due s f) = one_more (more (taken s f))
+abbrev pub step_once : (State → Run) → Next → Run
+step_once more (rest s) = record { state = s; steps = 0; pending = false }
+step_once more (due s f) = one_step_more (more (take_entry s f))
 
 -- settling within a budget
 abbrev pub settle_run : Table → ℕ → State → Run
-settle_run t zero s = halted (next t s)
-settle_run t (suc b) s = stepped (settle_run t b) (next t s)
+settle_run t zero s = halt (next t s)
+settle_run t (suc b) s = step_once (settle_run t b) (next t s)
 
 abbrev pub outcome_of : Run → Outcome
 outcome_of r = cond r.pending Pending (Settled r.steps)
@@ -140,7 +140,7 @@ active_answer s i = cond (nat_lt i s.items) (Ok (active s.trail i)) (Err fault.I
 
 abbrev pub reason_at : List TrailRecord → Option ℕ → Result Reason SessionFault
 reason_at t None = Err fault.Inactive
-reason_at t (Some k) = Ok (record { first = (slice_index_or t k blank).first; second = (slice_index_or t k blank).second })
+reason_at t (Some k) = Ok (record { first = (slice_index_or t k no_record).first; second = (slice_index_or t k no_record).second })
 
 abbrev pub reason_answer : State → ℕ → Result Reason SessionFault
 reason_answer s i = cond (nat_lt i s.items) (reason_at s.trail (find s.trail i)) (Err fault.Item)

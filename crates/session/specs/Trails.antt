@@ -17,9 +17,9 @@ find [] i = None
 find (r ∷ t) i = cond (r.item == i) (Some 0) (later (find t i))
 
 -- a partner, if there is one, is active; and its trail number
-abbrev pub granted : List TrailRecord → Option ℕ → Bool
-granted t None = true
-granted t (Some i) = active t i
+abbrev pub grants : List TrailRecord → Option ℕ → Bool
+grants t None = true
+grants t (Some i) = active t i
 
 abbrev pub cause_of : List TrailRecord → Option ℕ → Option ℕ
 cause_of t None = None
@@ -27,15 +27,15 @@ cause_of t (Some i) = find t i
 
 -- What every trail keeps, with n items and marks for them.
 
-abbrev pub blank : TrailRecord
-blank = record { item = 0; first = None; second = None }
+abbrev pub no_record : TrailRecord
+no_record = record { item = 0; first = None; second = None }
 
 -- its items are below n and differ
 abbrev pub Below : ℕ → List TrailRecord → Type 0
-Below n t = (k : ℕ) → k < length t → (slice_index_or t k blank).item < n
+Below n t = (k : ℕ) → k < length t → (slice_index_or t k no_record).item < n
 
 abbrev pub Apart : List TrailRecord → Type 0
-Apart t = (j k : ℕ) → j < k → k < length t → (slice_index_or t j blank).item ≢ (slice_index_or t k blank).item
+Apart t = (j k : ℕ) → j < k → k < length t → (slice_index_or t j no_record).item ≢ (slice_index_or t k no_record).item
 
 -- each item's mark is its trail number, or none
 abbrev pub Marked : ℕ → List TrailRecord → List (Option ℕ) → Type 0
@@ -43,7 +43,7 @@ Marked n t marks = (i : ℕ) → i < n → slice_index_or marks i None ≡ find 
 
 -- causes are older than what they caused
 abbrev pub FirstOlder : List TrailRecord → Type 0
-FirstOlder t = (k c : ℕ) → k < length t → (slice_index_or t k blank).first ≡ Some c → c < k
+FirstOlder t = (k c : ℕ) → k < length t → (slice_index_or t k no_record).first ≡ Some c → c < k
 
 abbrev pub SecondOlder : List TrailRecord → Type 0
-SecondOlder t = (k c : ℕ) → k < length t → (slice_index_or t k blank).second ≡ Some c → c < k
+SecondOlder t = (k c : ℕ) → k < length t → (slice_index_or t k no_record).second ≡ Some c → c < k

@@ -39,8 +39,8 @@ pub enum Call<'a> {
 // What a call answers.
 #[derive(Clone, Copy)]
 pub enum Answer {
-    Requested(Result<(), SessionFault>),
-    Settled(Result<Outcome, SessionFault>),
+    Request(Result<(), SessionFault>),
+    Settle(Result<Outcome, SessionFault>),
     Active(Result<bool, SessionFault>),
     Reason(Result<Reason, SessionFault>),
 }

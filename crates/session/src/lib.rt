@@ -1,13 +1,18 @@
-// Sessions: what requests make active by the rules of a rulebook, and why.
+//! Sessions: what requests make active by the rules of a rulebook, and why.
+
 #![tactic(auto)]
 
-pub mod calls;
+mod calls;
 mod joining;
-pub mod making;
-pub mod opening;
-pub mod questions;
-pub mod refusals;
-pub mod requests;
-pub mod session;
-pub mod settling;
-pub mod trail;
+mod making;
+mod opening;
+mod questions;
+mod refusal_numbers;
+mod requests;
+mod session;
+mod settling;
+mod trail;
+
+pub use calls::{Answer, Call, Outcome, Reason, SessionFault};
+pub use session::Session;
+pub use trail::{TrailRecord, UNUSED};

@@ -1,12 +1,12 @@
 // Opening a session.
 ghost use Rattle.std.specs.Prelude.{◌≡◌, length, drop};
 ghost use Rattle.session.specs.Held.{state};
-ghost use Rattle.session.specs.States.{check_opening, opened};
+ghost use Rattle.session.specs.States.{check_answer, open_session};
 
 use crate::calls::SessionFault;
 use crate::session::Session;
 use crate::trail::{Trail, TrailRecord};
-use rulebook::book::MOST_ITEMS;
+use rulebook::MAX_ITEMS;
 
 impl<'a> Session<'a> {
     // Whether a session of so many items can be opened in such memory: it takes one trail place and one mark for each.
@@ -15,12 +15,12 @@ impl<'a> Session<'a> {
         places: &[TrailRecord],
         marks: &[Option<u32>],
     ) -> Result<(), SessionFault>
-        ensures { result ≡ check_opening items (length places.now) (length marks.now) }
+        ensures { result ≡ check_answer items (length places.now) (length marks.now) }
     {
         if places.len() < items as usize || marks.len() < items as usize {
             return Err(SessionFault::Memory);
         }
-        if items > MOST_ITEMS {
+        if items > MAX_ITEMS {
             return Err(SessionFault::Item);
         }
         Ok(())
@@ -32,7 +32,7 @@ impl<'a> Session<'a> {
         places: &'a mut [TrailRecord],
         marks: &'a mut [Option<u32>],
     ) -> Session<'a>
-        ensures state { state result ≡ opened items (length places.old) (length marks.old) }
+        ensures state { state result ≡ open_session items (length places.old) (length marks.old) }
         ensures places { (result.trail.places.ghost_name ≡ places.entry.ghost_name) × (result.trail.places.now ≡ places.old) }
         ensures marks { (result.trail.marks.ghost_name ≡ marks.entry.ghost_name) × (drop result.items result.trail.marks.now ≡ drop result.items marks.old) }
     {
@@ -49,7 +49,7 @@ impl<'a> Session<'a> {
         Session {
             items,
             trail,
-            place: 0,
+            position: 0,
             row: 0,
         }
     }

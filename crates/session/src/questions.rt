@@ -3,7 +3,7 @@ ghost use Rattle.std.specs.Prelude.{◌≡◌, ◌<◌};
 ghost use Rattle.rulebook.specs.Tables.{Among};
 ghost use Rattle.session.specs.Held.{trail_of, state};
 ghost use Rattle.session.specs.States.{active_answer, reason_answer};
-ghost use Rattle.session.specs.Trails.{active, find, granted, cause_of};
+ghost use Rattle.session.specs.Trails.{active, find, grants, cause_of};
 
 use crate::calls::{Reason, SessionFault};
 use crate::session::Session;
@@ -36,7 +36,7 @@ impl Session<'_> {
     // Whether the partner, if there is one, is active.
     pub(crate) fn grants(&self, partner: Option<u32>) -> bool
         requires { Among (λ b. b < self.now.items) partner }
-        ensures { result ≡ granted (trail_of self.now) partner }
+        ensures { result ≡ grants (trail_of self.now) partner }
     {
         match partner {
             None => true,

@@ -1,7 +1,7 @@
 // Requesting items.
 ghost use Rattle.std.specs.Prelude.{◌≡◌, ◌<◌};
 ghost use Rattle.session.specs.Held.{state, Keeps};
-ghost use Rattle.session.specs.States.{requested_one, request_answer, request_leaves};
+ghost use Rattle.session.specs.States.{request_one, request_answer, request_leaves};
 
 use crate::calls::SessionFault;
 use crate::session::Session;
@@ -23,7 +23,7 @@ impl Session<'_> {
     // An item joins the trail, without causes, unless it is active.
     fn request_one(&mut self, item: u32)
         requires { item < self.old.items }
-        ensures state { state self.new ≡ requested_one (state self.old) item }
+        ensures state { state self.new ≡ request_one (state self.old) item }
         ensures keeps { Keeps self.new self.old }
     {
         if !self.is_on_trail(item) {

@@ -1,6 +1,6 @@
 // A session over lent memory.
 ghost use Rattle.std.specs.Prelude.{◌≤◌, length, take};
-ghost use Rattle.rulebook.specs.Tables.{most_items};
+ghost use Rattle.rulebook.specs.Tables.{max_items};
 ghost use Rattle.session.specs.Trails.{Below, Apart, Marked, FirstOlder, SecondOlder};
 
 use crate::trail::Trail;
@@ -11,13 +11,13 @@ use crate::trail::Trail;
 pub struct Session<'a> {
     pub(crate) items: u32,
     pub(crate) trail: Trail<'a>,
-    pub(crate) place: u32,
+    pub(crate) position: u32,
     pub(crate) row: u32,
-    ghost few: { items ≤ most_items },
+    ghost few: { items ≤ max_items },
     ghost places: { items ≤ length trail.places.now },
     ghost marks: { items ≤ length trail.marks.now },
     ghost held: { trail.len ≤ length trail.places.now },
-    ghost inside: { place ≤ trail.len },
+    ghost inside: { position ≤ trail.len },
     ghost below: { Below items (take trail.len trail.places.now) },
     ghost apart: { Apart (take trail.len trail.places.now) },
     ghost marked: { Marked items (take trail.len trail.places.now) trail.marks.now },

@@ -1,45 +1,44 @@
 // Settling: watch entries are taken in trail order, from the worked place on.
 ghost use Rattle.std.specs.Prelude.{◌≡◌, ◌+◌, ◌<◌};
-ghost use Rattle.rulebook.specs.Tables.{Among, most_rows};
+ghost use Rattle.rulebook.specs.Tables.{Among, max_rows};
 ghost use Rattle.session.specs.Held.{state, Keeps};
-ghost use Rattle.session.specs.States.{worked_item, worked, concluded, taken, settle_answer, settle_leaves};
+ghost use Rattle.session.specs.States.{worked_item, with_position, conclude, take_entry, settle_answer, settle_leaves};
 
 use crate::calls::{Outcome, SessionFault};
 use crate::session::Session;
 use crate::trail::TrailRecord;
-use rulebook::book::Rulebook;
-use rulebook::entries::{Entry, Found};
+use rulebook::{RowEntry, Rulebook, WatchEntry};
 
 impl Session<'_> {
     // The item at the worked place, if a trail item is left.
     fn worked_item(&self) -> Option<u32>
         ensures { result ≡ worked_item (state self.now) }
     {
-        if self.place == self.trail.len {
+        if self.position == self.trail.len {
             return None;
         }
-        Some(self.trail.places[self.place as usize].item)
+        Some(self.trail.places[self.position as usize].item)
     }
 
     // On to the next trail item, at row 0.
     fn move_on(&mut self)
-        requires { self.old.place < self.old.trail.len }
-        ensures state { state self.new ≡ worked (state self.old) (self.old.place + 1) 0 }
+        requires { self.old.position < self.old.trail.len }
+        ensures state { state self.new ≡ with_position (state self.old) (self.old.position + 1) 0 }
         ensures keeps { Keeps self.new self.old }
     {
-        self.place += 1;
+        self.position += 1;
         self.row = 0;
     }
 
     // The conclusion of an entry joins the trail if its premises are active and it is not.
-    fn conclude(&mut self, entry: Entry)
-        requires place { self.old.place < self.old.trail.len }
+    fn conclude(&mut self, entry: WatchEntry)
+        requires position { self.old.position < self.old.trail.len }
         requires below { (entry.conclusion < self.old.items) × Among (λ b. b < self.old.items) entry.partner }
-        ensures state { state self.new ≡ concluded (state self.old) entry }
+        ensures state { state self.new ≡ conclude (state self.old) entry }
         ensures keeps { Keeps self.new self.old }
     {
         if self.grants(entry.partner) && !self.is_on_trail(entry.conclusion) {
-            let first = Some(self.place);
+            let first = Some(self.position);
             let second = self.cause_of(entry.partner);
             self.join(TrailRecord {
                 item: entry.conclusion,
@@ -50,11 +49,11 @@ impl Session<'_> {
     }
 
     // An entry of the worked item is taken.
-    fn take(&mut self, found: Found)
-        requires place { self.old.place < self.old.trail.len }
+    fn take(&mut self, found: RowEntry)
+        requires position { self.old.position < self.old.trail.len }
         requires below { (found.entry.conclusion < self.old.items) × Among (λ b. b < self.old.items) found.entry.partner }
-        requires row { found.row < most_rows }
-        ensures state { state self.new ≡ taken (state self.old) found }
+        requires row { found.row < max_rows }
+        ensures state { state self.new ≡ take_entry (state self.old) found }
         ensures keeps { Keeps self.new self.old }
     {
         self.conclude(found.entry);

@@ -1,6 +1,6 @@
 // Trails in lent memory.
 ghost use Rattle.std.specs.Prelude.{◌≡◌, ◌+◌, ◌<◌, length, Some, slice_set};
-ghost use Rattle.rulebook.specs.Tables.{most_items};
+ghost use Rattle.rulebook.specs.Tables.{max_items};
 ghost use Rattle.session.specs.Memory.{SameMemory};
 
 // An active item, and what made it active: the trail numbers of the premises, or none where it was requested.
@@ -30,8 +30,8 @@ pub struct Trail<'a> {
 impl Trail<'_> {
     // One record more.
     pub(crate) fn push(&mut self, added: TrailRecord)
-        requires few { self.old.len < most_items }
-        requires place { self.old.len < length self.old.places.now }
+        requires few { self.old.len < max_items }
+        requires position { self.old.len < length self.old.places.now }
         requires mark { added.item < length self.old.marks.now }
         ensures places { self.new.places.now ≡ slice_set self.old.places.now self.old.len added }
         ensures marks { self.new.marks.now ≡ slice_set self.old.marks.now added.item (Some self.old.len) }

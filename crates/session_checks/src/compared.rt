@@ -5,13 +5,9 @@ use crate::ours::{Replayed, make_calls};
 use crate::scripts::{Pace, Script, same};
 use crate::separation::{Manner, Mistake, SPLIT, SPLIT_NO_DEV, UNIFIED, UNIFIED_NO_DEV};
 use crate::trails::{Trail, TrailTally};
-use policy::answers::Policy;
-use policy::dev_cut::DevCut;
-use policy::host_split::HostSplit;
-use policy::unified::Unified;
-use rulebook::book::Rulebook;
-use rulebook::graph_book::GraphBook;
-use session::calls::{Answer, Call};
+use policy::{DevCut, HostSplit, Policy, Unified};
+use rulebook::{GraphBook, Rulebook};
+use session::{Answer, Call};
 use std::alloc::{AllocError, Global};
 use tally::Tally;
 

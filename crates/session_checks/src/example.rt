@@ -3,7 +3,7 @@ use crate::decode::decode;
 use crate::graphs::Graph;
 use crate::scripts::Expected;
 use crate::separation::{Manner, SPLIT, Separation, UNIFIED};
-use graph::examples::EXAMPLE;
+use graph::EXAMPLE;
 use std::alloc::{AllocError, Global};
 use tally::Tally;
 

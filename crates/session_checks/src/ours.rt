@@ -1,11 +1,8 @@
 // What the library answers: a session over the graph book of an opened file.
-use graph::opening::open_graph;
-use graph::rows::Opened;
-use resolver::replays::replay;
-use rulebook::book::Rulebook;
-use session::calls::{Answer, Call};
-use session::session::Session;
-use session::trail::{TrailRecord, UNUSED};
+use graph::{Opened, open_graph};
+use resolver::run_calls;
+use rulebook::Rulebook;
+use session::{Answer, Call, Session, TrailRecord, UNUSED};
 use std::alloc::{AllocError, Global};
 
 // An opened file.
@@ -45,7 +42,7 @@ pub fn make_calls<B: Rulebook>(
     let mut marks = vec![in heap; None; count as usize]?;
     let mut answers = vec![in heap; Answer::Active(Ok(false)); calls.len()]?;
     let mut session = Session::new(count, places.as_mut_slice(), marks.as_mut_slice());
-    if replay(&mut session, book, calls, answers.as_mut_slice()).is_err() {
+    if run_calls(&mut session, book, calls, answers.as_mut_slice()).is_err() {
         answers.truncate(0);
     }
     let trail = Vec::from_slice(heap, session.trail())?;

@@ -4,7 +4,7 @@ use crate::graphs::Graph;
 use crate::items::Item;
 use crate::resolved::Resolved;
 use crate::separation::Manner;
-use session::calls::{Answer, Call, Outcome, SessionFault};
+use session::{Answer, Call, Outcome, SessionFault};
 use std::alloc::{AllocError, Global};
 use std::collections::BTreeSet;
 
@@ -78,7 +78,7 @@ impl<'r> Script<'r> {
     }
 
     fn request(&mut self, items: &'r [u32]) -> Result<(), AllocError> {
-        self.add(Call::Request(items), Answer::Requested(Ok(())))
+        self.add(Call::Request(items), Answer::Request(Ok(())))
     }
 
     // Settles where so many steps are to be taken since opening; true if nothing is pending then.
@@ -86,12 +86,12 @@ impl<'r> Script<'r> {
         let left = all.saturating_sub(self.taken);
         if left > u64::from(budget) {
             self.taken = self.taken.saturating_add(u64::from(budget));
-            self.add(Call::Settle(budget), Answer::Settled(Ok(Outcome::Pending)))?;
+            self.add(Call::Settle(budget), Answer::Settle(Ok(Outcome::Pending)))?;
             return Ok(false);
         }
         self.taken = all;
         let outcome = Outcome::Settled(u32::try_from(left).unwrap_or(u32::MAX));
-        self.add(Call::Settle(budget), Answer::Settled(Ok(outcome)))?;
+        self.add(Call::Settle(budget), Answer::Settle(Ok(outcome)))?;
         Ok(true)
     }
 
@@ -148,7 +148,7 @@ impl<'r> Script<'r> {
                 self.ask(items, &first.on)?;
             }
         }
-        let refused = Answer::Requested(Err(SessionFault::Item));
+        let refused = Answer::Request(Err(SessionFault::Item));
         self.add(Call::Request(requests.refused), refused)?;
         self.request(requests.second)?;
         self.settle_at(pace, both.steps)?;
@@ -159,8 +159,8 @@ impl<'r> Script<'r> {
 // Whether two answers are the same.
 pub fn same(answer: Answer, other: Answer) -> bool {
     match (answer, other) {
-        (Answer::Requested(a), Answer::Requested(b)) => a == b,
-        (Answer::Settled(a), Answer::Settled(b)) => a == b,
+        (Answer::Request(a), Answer::Request(b)) => a == b,
+        (Answer::Settle(a), Answer::Settle(b)) => a == b,
         (Answer::Active(a), Answer::Active(b)) => a == b,
         (Answer::Reason(a), Answer::Reason(b)) => a == b,
         _ => false,

@@ -2,8 +2,7 @@
 use crate::follows::World;
 use crate::items::Item;
 use crate::scripts::{Expected, Requests};
-use session::calls::{Answer, Reason, SessionFault};
-use session::trail::TrailRecord;
+use session::{Answer, Reason, SessionFault, TrailRecord};
 use std::alloc::{AllocError, Global};
 use std::collections::BTreeSet;
 use std::fmt;

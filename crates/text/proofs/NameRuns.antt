@@ -5,15 +5,15 @@ use Rattle.std.proofs.lemmas.List.{length_push}
 use Rattle.std.proofs.lemmas.Bool.{cond-true, cond-false, cond_both, and_from, and_parts, ne_eqb, lt-ltb, ltb-true}
 use Rattle.text.specs.declared.faults.StringFault.{StringFault}
 use Rattle.text.specs.declared.faults.StringFault.TheVariants.{NoName}
-use Rattle.text.specs.Names.{initial, inner, Inner, longest_name, Name}
+use Rattle.text.specs.Names.{initial, inner, Inner, max_name_bytes, Name}
 use Rattle.text.specs.Forms.{Piece, whole}
 use Rattle.text.specs.Prefixes.{Begins}
 use Rattle.text.specs.Laws.{NameLaw}
 use Rattle.text.specs.Machines.{read_from}
-use Rattle.text.specs.Readers.{allowed, name_step, name_finish, read_name}
+use Rattle.text.specs.Readers.{fits_name, name_step, name_finish, read_name}
 use Rattle.text.proofs.Machines.{Verdict, read_some, reads}
 
-pub name-push : (p : List ℕ) (c : ℕ) → Name p → inner c ≡ true → length p < longest_name → Name (p ++ c ∷ [])
+pub name-push : (p : List ℕ) (c : ℕ) → Name p → inner c ≡ true → length p < max_name_bytes → Name (p ++ c ∷ [])
 name-push [] c n i l = absurd n
 name-push (b ∷ bs) c n i l = (n.0, All-push (λ x. inner x ≡ true) bs c n.1 i, omega (arith, length_push bs c))
 
@@ -36,14 +36,14 @@ After (Some at) p = Before at p
 
 after : (at : ℕ) (p : List ℕ) (c : ℕ) → Before at p → After (name_step at c) (p ++ c ∷ [])
 after at [] c e =
-    cond_both (allowed at c) _ _ (λ o. After o (c ∷ []))
-    (λ a. (one_byte c (sym (ap (λ k. allowed k c) e) ∙ a), omega arith))
+    cond_both (fits_name at c) _ _ (λ o. After o (c ∷ []))
+    (λ a. (one_byte c (sym (ap (λ k. fits_name k c) e) ∙ a), omega arith))
     (λ _. tt)
 after at (b ∷ bs) c h =
-    cond_both (allowed at c) _ _ (λ o. After o ((b ∷ bs) ++ c ∷ []))
-    (λ a. let k : (inner c && ltb at longest_name) ≡ true = sym (cond-false _ _ _ (ne_eqb at 0 (λ z. omega (arith, h.1)))) ∙ a in
-    let i = and_parts (inner c) (ltb at longest_name) k in
-    (name-push (b ∷ bs) c h.0 i.0 (omega (arith, h.1, ltb-true at longest_name i.1)), omega (arith, h.1, length_push bs c)))
+    cond_both (fits_name at c) _ _ (λ o. After o ((b ∷ bs) ++ c ∷ []))
+    (λ a. let k : (inner c && ltb at max_name_bytes) ≡ true = sym (cond-false _ _ _ (ne_eqb at 0 (λ z. omega (arith, h.1)))) ∙ a in
+    let i = and_parts (inner c) (ltb at max_name_bytes) k in
+    (name-push (b ∷ bs) c h.0 i.0 (omega (arith, h.1, ltb-true at max_name_bytes i.1)), omega (arith, h.1, length_push bs c)))
     (λ _. tt)
 
 before_more : (at at' : ℕ) (p : List ℕ) (c : ℕ) → Before at p → name_step at c ≡ Some at' → Before at' (p ++ c ∷ [])
@@ -61,11 +61,11 @@ at-end at (b ∷ bs) h =
     subst (Verdict Name (λ n. n) whole NoName (b ∷ bs)) (sym (cond-false _ _ _ (ne_eqb at 0 (λ z. omega (arith, h.1)))))
     (b ∷ bs, h.0, refl, refl)
 
-inner-run : (t : List ℕ) (at : ℕ) (bs : List ℕ) → 0 < at → Inner bs → at + length bs ≤ longest_name → read_from name_step name_finish NoName t at at bs ≡ Ok (whole t)
+inner-run : (t : List ℕ) (at : ℕ) (bs : List ℕ) → 0 < at → Inner bs → at + length bs ≤ max_name_bytes → read_from name_step name_finish NoName t at at bs ≡ Ok (whole t)
 inner-run t at [] z i l = cond-false _ _ _ (ne_eqb at 0 (λ e. omega arith))
 inner-run t at (b ∷ bs) z i l =
     read_some name_step name_finish NoName t at (at + 1) at b bs
-    (cond-true _ _ _ (cond-false _ _ _ (ne_eqb at 0 (λ e. omega arith)) ∙ and_from (inner b) (ltb at longest_name) i.0 (lt-ltb at longest_name (omega arith))))
+    (cond-true _ _ _ (cond-false _ _ _ (ne_eqb at 0 (λ e. omega arith)) ∙ and_from (inner b) (ltb at max_name_bytes) i.0 (lt-ltb at max_name_bytes (omega arith))))
     ∙ inner-run t (at + 1) bs (omega arith) i.1 (omega arith)
 
 accepts : (n : List ℕ) → Name n → read_name n ≡ Ok (whole n)

@@ -10,11 +10,11 @@ pub data Form (A : Type 0) : Type 0 where
   weak : (dependency feature : A) → Form A
 
 -- the names of a form are names
-abbrev pub Lawful : Form (List ℕ) → Type 0
-Lawful (plain g) = Name g
-Lawful (switch n) = Name n
-Lawful (strong n g) = Name n × Name g
-Lawful (weak n g) = Name n × Name g
+abbrev pub LawfulForm : Form (List ℕ) → Type 0
+LawfulForm (plain g) = Name g
+LawfulForm (switch n) = Name n
+LawfulForm (strong n g) = Name n × Name g
+LawfulForm (weak n g) = Name n × Name g
 
 -- how a form is spelled
 abbrev pub spell : Form (List ℕ) → List ℕ
@@ -33,15 +33,15 @@ abbrev pub whole : List ℕ → Piece
 whole t = record { place = 0; text = t }
 
 -- the names of a form, where they stand in its spelling
-abbrev pub placed : Form (List ℕ) → Form Piece
-placed (plain g) = plain (whole g)
-placed (switch n) = switch (record { place = 4; text = n })
-placed (strong n g) = strong (whole n) (record { place = length n + 1; text = g })
-placed (weak n g) = weak (whole n) (record { place = length n + 2; text = g })
+abbrev pub with_places : Form (List ℕ) → Form Piece
+with_places (plain g) = plain (whole g)
+with_places (switch n) = switch (record { place = 4; text = n })
+with_places (strong n g) = strong (whole n) (record { place = length n + 1; text = g })
+with_places (weak n g) = weak (whole n) (record { place = length n + 2; text = g })
 
 -- the form without the places
-abbrev pub unplaced : Form Piece → Form (List ℕ)
-unplaced (plain g) = plain g.text
-unplaced (switch n) = switch n.text
-unplaced (strong n g) = strong n.text g.text
-unplaced (weak n g) = weak n.text g.text
+abbrev pub without_places : Form Piece → Form (List ℕ)
+without_places (plain g) = plain g.text
+without_places (switch n) = switch n.text
+without_places (strong n g) = strong n.text g.text
+without_places (weak n g) = weak n.text g.text

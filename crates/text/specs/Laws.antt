@@ -3,7 +3,7 @@ use Rattle.std.specs.Prelude.{◌≡◌, ℕ, List, Ok, Err, Result, ◌≢◌}
 use Rattle.text.specs.declared.faults.StringFault.{StringFault}
 use Rattle.text.specs.declared.faults.StringFault.TheVariants.{NoName, NoForm}
 use Rattle.text.specs.Names.{Name}
-use Rattle.text.specs.Forms.{Form, Lawful, spell, Piece, whole, placed}
+use Rattle.text.specs.Forms.{Form, LawfulForm, spell, Piece, whole, with_places}
 use Rattle.text.specs.Prefixes.{Longest}
 
 -- r is what reading t answers, where a lawful meaning m is answered as `told m`,
@@ -23,4 +23,4 @@ abbrev pub NameLaw : List ℕ → Result Piece StringFault → Type 0
 NameLaw t r = Reads Name (λ n. n) whole NoName t r
 
 abbrev pub FormLaw : List ℕ → Result (Form Piece) StringFault → Type 0
-FormLaw t r = Reads Lawful spell placed NoForm t r
+FormLaw t r = Reads LawfulForm spell with_places NoForm t r

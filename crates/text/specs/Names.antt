@@ -19,10 +19,10 @@ abbrev pub Inner : List ℕ → Type 0
 Inner bs = AllByRecursion (λ c. inner c ≡ true) bs
 
 -- the most bytes that a name has
-abbrev pub longest_name : ℕ
-longest_name = 64
+abbrev pub max_name_bytes : ℕ
+max_name_bytes = 64
 
 -- a name has 1 to 64 bytes, the first one initial, the later ones inner
 abbrev pub Name : List ℕ → Type 0
 Name [] = ⊥
-Name (b ∷ bs) = (initial b ≡ true) × Inner bs × (length (b ∷ bs) ≤ longest_name)
+Name (b ∷ bs) = (initial b ≡ true) × Inner bs × (length (b ∷ bs) ≤ max_name_bytes)

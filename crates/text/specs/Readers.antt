@@ -2,21 +2,21 @@
 use Rattle.std.specs.Prelude.{◌≡◌, ℕ, ◌+◌, ◌≤◌, Bool, true, cond, ◌&&◌, ◌||◌, List, length, take, drop, Some, None, Ok, Err, Option, Result, ◌==◌, nat_lt}
 use Rattle.text.specs.declared.faults.StringFault.{StringFault}
 use Rattle.text.specs.declared.faults.StringFault.TheVariants.{NoName, NoForm}
-use Rattle.text.specs.declared.strings.Link.{Link}
-use Rattle.text.specs.declared.strings.Link.TheVariants.{Switch, Strong, Weak}
+use Rattle.text.specs.declared.strings.Separator.{Separator}
+use Rattle.text.specs.declared.strings.Separator.TheVariants.{Switch, Strong, Weak}
 use Rattle.text.specs.declared.strings.State.{State}
 use Rattle.text.specs.declared.strings.State.TheVariants.{Start, First, AfterQuestion, BeforeLast, Last}
-use Rattle.text.specs.Names.{initial, inner, longest_name}
+use Rattle.text.specs.Names.{initial, inner, max_name_bytes}
 use Rattle.text.specs.Machines.{read_from}
 use Rattle.text.specs.Forms.{Form, plain, switch, strong, weak, Piece, whole}
 
 -- a name may have c at this place
-abbrev pub allowed : ℕ → ℕ → Bool
-allowed at c = cond (at == 0) (initial c) (inner c && nat_lt at longest_name)
+abbrev pub fits_name : ℕ → ℕ → Bool
+fits_name at c = cond (at == 0) (initial c) (inner c && nat_lt at max_name_bytes)
 
 -- the reader of names counts the bytes read
 abbrev pub name_step : ℕ → ℕ → Option ℕ
-name_step at c = cond (allowed at c) (Some (at + 1)) None
+name_step at c = cond (fits_name at c) (Some (at + 1)) None
 
 abbrev pub name_finish : ℕ → List ℕ → Result Piece StringFault
 name_finish at t = cond (at == 0) (Err (NoName 0)) (Ok (whole t))
@@ -35,49 +35,49 @@ abbrev pub colon : ℕ
 colon = 58
 
 -- c is the letter of the word dep at the place len, where dep says that those before it are there
-abbrev pub spelling : Bool → ℕ → ℕ → Bool
-spelling dep len c = dep && ((len == 0 && c == 100) || ((len == 1 && c == 101) || (len == 2 && c == 112)))
+abbrev pub spells_dep : Bool → ℕ → ℕ → Bool
+spells_dep dep len c = dep && ((len == 0 && c == 100) || ((len == 1 && c == 101) || (len == 2 && c == 112)))
 
 -- the state after the byte c, or none where no lawful string goes on so
 abbrev pub step : State → ℕ → Option State
-step Start c = cond (initial c) (Some (First 1 (spelling true 0 c))) None
+step Start c = cond (initial c) (Some (First 1 (spells_dep true 0 c))) None
 step (First len dep) c =
-    cond (inner c && nat_lt len longest_name) (Some (First (len + 1) (spelling dep len c)))
+    cond (inner c && nat_lt len max_name_bytes) (Some (First (len + 1) (spells_dep dep len c)))
     (cond (c == slash) (Some (BeforeLast Strong len))
     (cond (c == question) (Some (AfterQuestion len))
     (cond (c == colon && (dep && len == 3)) (Some (BeforeLast Switch len)) None)))
 step (AfterQuestion first_len) c = cond (c == slash) (Some (BeforeLast Weak first_len)) None
-step (BeforeLast link first_len) c = cond (initial c) (Some (Last link first_len 1)) None
-step (Last link first_len len) c = cond (inner c && nat_lt len longest_name) (Some (Last link first_len (len + 1))) None
+step (BeforeLast separator first_len) c = cond (initial c) (Some (Last separator first_len 1)) None
+step (Last separator first_len len) c = cond (inner c && nat_lt len max_name_bytes) (Some (Last separator first_len (len + 1))) None
 
 -- the piece of t from a place on, and the one before a place
-abbrev pub from : ℕ → List ℕ → Piece
-from at t = record { place = at; text = drop at t }
+abbrev pub piece_from : ℕ → List ℕ → Piece
+piece_from at t = record { place = at; text = drop at t }
 
-abbrev pub upto : ℕ → List ℕ → Piece
-upto at t = record { place = 0; text = take at t }
+abbrev pub piece_before : ℕ → List ℕ → Piece
+piece_before at t = record { place = 0; text = take at t }
 
 -- what is answered where the string t ends
 abbrev pub finish : State → List ℕ → Result (Form Piece) StringFault
 finish Start t = Err (NoForm (length t))
 finish (First len dep) t = Ok (plain (whole t))
 finish (AfterQuestion first_len) t = Err (NoForm (length t))
-finish (BeforeLast link first_len) t = Err (NoForm (length t))
-finish (Last Switch first_len len) t = Ok (switch (from 4 t))
-finish (Last Strong first_len len) t = Ok (strong (upto first_len t) (from (first_len + 1) t))
-finish (Last Weak first_len len) t = Ok (weak (upto first_len t) (from (first_len + 2) t))
+finish (BeforeLast separator first_len) t = Err (NoForm (length t))
+finish (Last Switch first_len len) t = Ok (switch (piece_from 4 t))
+finish (Last Strong first_len len) t = Ok (strong (piece_before first_len t) (piece_from (first_len + 1) t))
+finish (Last Weak first_len len) t = Ok (weak (piece_before first_len t) (piece_from (first_len + 2) t))
 
 abbrev pub read_form : List ℕ → Result (Form Piece) StringFault
 read_form t = read_from step finish NoForm t Start 0 t
 
 -- the bytes that stand before the last name beside the first one
-abbrev pub width : Link → ℕ
+abbrev pub width : Separator → ℕ
 width Switch = 1
 width Strong = 1
 width Weak = 2
 
 -- a switch has the three letters of dep for its first name
-abbrev pub Letters : Link → ℕ → Type 0
+abbrev pub Letters : Separator → ℕ → Type 0
 Letters Switch first_len = first_len ≡ 3
 Letters Strong first_len = Unit {0}
 Letters Weak first_len = Unit {0}
@@ -87,5 +87,5 @@ abbrev pub Room : State → ℕ → Type 0
 Room Start at = Unit {0}
 Room (First len dep) at = len ≤ at
 Room (AfterQuestion first_len) at = first_len + 1 ≤ at
-Room (BeforeLast link first_len) at = (first_len + width link ≤ at) × Letters link first_len
-Room (Last link first_len len) at = (first_len + width link ≤ at) × Letters link first_len
+Room (BeforeLast separator first_len) at = (first_len + width separator ≤ at) × Letters separator first_len
+Room (Last separator first_len len) at = (first_len + width separator ≤ at) × Letters separator first_len

@@ -1,4 +1,4 @@
-// Names and feature strings: one grammar, one reading each.
+//! Names and feature strings: one grammar, one reading each.
 
 #![tactic(auto)]
 
@@ -16,8 +16,14 @@ macro_rules! inner {
     };
 }
 
-pub mod examples;
-pub mod faults;
-pub mod names;
-pub mod parts;
-pub mod strings;
+mod examples;
+mod faults;
+mod names;
+mod pieces;
+mod strings;
+
+pub use examples::worked_examples;
+pub use faults::StringFault;
+pub use names::{MAX_NAME_BYTES, read_name};
+pub use pieces::{FeatureString, Piece};
+pub use strings::read_feature_string;

@@ -1,26 +1,26 @@
 // The reader of names.
 ghost use Rattle.std.specs.Prelude.{◌≡◌};
 ghost use Rattle.text.specs.Laws.{NameLaw};
-ghost use Rattle.text.specs.Readers.{allowed, read_name};
-ghost use Rattle.text.specs.Views.{mapped, piece};
+ghost use Rattle.text.specs.Readers.{fits_name, read_name};
+ghost use Rattle.text.specs.Views.{map_ok, piece};
 
 use crate::faults::StringFault;
-use crate::parts::Part;
+use crate::pieces::Piece;
 
 // The most bytes that a name has.
-pub const LONGEST_NAME: usize = 64;
+pub const MAX_NAME_BYTES: usize = 64;
 
 // Whether a name may have `c` at this place.
 fn fits_name(at: usize, c: char) -> bool
-    ensures { result ≡ allowed at c }
+    ensures { result ≡ fits_name at c }
 {
-    matches!((at, c), (0, initial!()) | (1..LONGEST_NAME, inner!()))
+    matches!((at, c), (0, initial!()) | (1..MAX_NAME_BYTES, inner!()))
 }
 
 // Reads a string as a name. The answer is the whole string, as a part of itself.
-pub fn read_name<'a>(text: &'a [u8]) -> Result<Part<'a>, StringFault>
-    ensures value { mapped piece result ≡ read_name text.now }
-    ensures law { NameLaw text.now (mapped piece result) }
+pub fn read_name<'a>(text: &'a [u8]) -> Result<Piece<'a>, StringFault>
+    ensures value { map_ok piece result ≡ read_name text.now }
+    ensures law { NameLaw text.now (map_ok piece result) }
 {
     for (at, b) in text.iter().enumerate() {
         if !fits_name(at, char::from(*b)) {
@@ -30,5 +30,5 @@ pub fn read_name<'a>(text: &'a [u8]) -> Result<Part<'a>, StringFault>
     if text.is_empty() {
         return Err(StringFault::NoName { prefix: 0 });
     }
-    Ok(Part { at: 0, bytes: text })
+    Ok(Piece { at: 0, bytes: text })
 }

@@ -3,10 +3,9 @@ use crate::kinds::EdgeKind;
 use crate::opener::graphs::{Form, Value};
 use crate::opener::stops::{Place, Stop, Why};
 use crate::second;
-use graph::refusals::Refusal;
+use refusals::Refusal;
 use std::alloc::Global;
-use text::faults::StringFault;
-use text::parts::Part;
+use text::{Piece, StringFault};
 
 // What is left of a record, and the place in it where that begins, which the refusals tell.
 #[derive(Drop)]
@@ -53,23 +52,23 @@ impl<'a> Fields<'a> {
     }
 
     // A string, whose length byte is part of the field.
-    fn string(&mut self) -> Result<Part<'a>, Refusal> {
+    fn string(&mut self) -> Result<Piece<'a>, Refusal> {
         let ragged = self.ragged();
         let (len, rest) = self.rest.split_first().ok_or(ragged)?;
         let (bytes, rest) = rest.split_at_checked(usize::from(*len)).ok_or(ragged)?;
         let at = self.at.saturating_add(1);
         self.rest = rest;
         self.at = at.saturating_add(bytes.len());
-        Ok(Part { at, bytes })
+        Ok(Piece { at, bytes })
     }
 
     // The refusal of a string with that fault.
-    fn misspelled(&self, string: Part<'a>, fault: StringFault) -> Refusal {
+    fn misspelled(&self, string: Piece<'a>, fault: StringFault) -> Refusal {
         let (StringFault::NoName { prefix } | StringFault::NoForm { prefix }) = fault;
         self.place.refusal(Why::Name, string.at, prefix)
     }
 
-    pub fn name(&mut self) -> Result<Part<'a>, Refusal> {
+    pub fn name(&mut self) -> Result<Piece<'a>, Refusal> {
         let name = self.string()?;
         second::of_name(name.bytes).map_err(|fault| self.misspelled(name, fault))?;
         Ok(name)

@@ -2,7 +2,7 @@
 use crate::kinds::EdgeKind;
 use crate::opener::stops::Place;
 use std::collections::BTreeMap;
-use text::parts::{FeatureString, Part};
+use text::{FeatureString, Piece};
 
 // What a value with a link says: the name of dependencies, whether it turns them on, and the feature of their ends
 // that it turns on, if any. The listing asks for each apart, so that an enum of the three would be matched twice.
@@ -57,7 +57,7 @@ pub struct Dependency<'a> {
     pub optional: bool,
     pub defaults: bool,
     pub name: &'a [u8],
-    pub asks: Vec<Part<'a>>,
+    pub asks: Vec<Piece<'a>>,
 }
 
 #[derive(Drop)]

@@ -3,7 +3,7 @@ use crate::kinds::RecordKind;
 use crate::opener::fields::Fields;
 use crate::opener::graphs::{Dependency, Feature, Graph, Package};
 use crate::opener::stops::{Place, Stop, Why};
-use graph::refusals::Refusal;
+use refusals::Refusal;
 use std::alloc::Global;
 use std::collections::BTreeMap;
 

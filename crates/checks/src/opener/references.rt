@@ -1,7 +1,7 @@
 // The second reading: whatever a graph refers to must be there.
 use crate::opener::graphs::{Dependency, Feature, Form, Graph, Link, Package};
 use crate::opener::stops::Why;
-use graph::refusals::Refusal;
+use refusals::Refusal;
 
 // The first dependency with no end.
 fn lost_end(graph: &Graph<'_>) -> Option<Refusal> {
@@ -75,7 +75,8 @@ impl<'g, 'a> Owner<'g, 'a> {
             .features
             .iter()
             .filter_map(|feature| self.unknown_value(feature));
-        asks.chain(values).min_by_key(|refusal| refusal.record)
+        asks.chain(values)
+            .min_by_key(|refusal| refusal.record_number)
     }
 }
 

@@ -1,5 +1,5 @@
 // Why the second opener stops. The program `demo` has the like, and no crate below both may speak of memory.
-use graph::refusals::Refusal;
+use refusals::Refusal;
 use std::alloc::{AllocError, AllocFailed};
 
 #[derive(Drop)]
@@ -71,7 +71,7 @@ impl Place {
         let Place { record, start } = self;
         Refusal {
             number: why as u32,
-            record,
+            record_number: record,
             start,
             field,
             prefix,

@@ -42,8 +42,8 @@ pub returns : goal.returns
 returns c =
     let file = c.args.file.now in
     let words = c.args.words.now in
-    let r = c.lay_words.result in
+    let r = c.write_words.result in
     let read = subst (λ f. ReadAs f (Ok tt) c.read.new.self) c.new-directory.ensures.0 c.in_ok-read.ensures in
     let h = both-accept file words c.read.new.self read c.in_ok-second_reading.ensures in
-    let e : ◌≡◌ {A = Result Opened FileFault × List ℕ} (r, c.lay_words.new.words) (leaving words (open_graph file words)) = c.lay_words.ensures ∙ ap (leaving words) (sym h) in
+    let e : ◌≡◌ {A = Result Opened FileFault × List ℕ} (r, c.write_words.new.words) (leaving words (open_graph file words)) = c.write_words.ensures ∙ ap (leaving words) (sym h) in
     record { opened = e; law = opened-law file words (bytes_fit file c.type_inv.file) r _ e; rules = opened-rules file }

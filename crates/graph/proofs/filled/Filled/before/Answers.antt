@@ -1,5 +1,5 @@
 use Rattle.std.proofs.Common.{sym, ◌∙◌, arith}
-use Rattle.graph.specs.Laying.{its}
+use Rattle.graph.specs.RowLists.{its}
 use Rattle.graph.proofs.Befores.{dependencies-all, features-all}
 use Rattle.graph.proofs.FilledTells.{packages-told, dependencies-told, features-told}
 use Rattle.graph.proofs.filled.Filled.before.Goals as goal

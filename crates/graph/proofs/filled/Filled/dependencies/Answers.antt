@@ -1,6 +1,6 @@
 use Rattle.std.proofs.Common.{◌≡◌, ◌+◌, length, get_or, sym, ap, ◌∙◌, subst, arith}
 use Rattle.records.specs.Graphs.{dependency}
-use Rattle.graph.specs.Laying.{its, ReadsAs}
+use Rattle.graph.specs.RowLists.{its, ReadsAs}
 use Rattle.graph.specs.Places.{dependencies_of, dependencies_before, no_dependency}
 use Rattle.graph.proofs.Befores.{dependencies-within, dependencies-after}
 use Rattle.graph.proofs.FilledTells.{packages-told, few-packages, few-dependencies, window-length, dependency-window}

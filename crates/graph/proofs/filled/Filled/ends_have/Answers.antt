@@ -1,5 +1,5 @@
 use Rattle.std.proofs.Common.{ap, ◌∙◌}
-use Rattle.graph.specs.Laying.{its}
+use Rattle.graph.specs.RowLists.{its}
 use Rattle.graph.specs.Namesakes.{left}
 use Rattle.graph.proofs.NamesakesLaid.{all_have, all-namesakes-have}
 use Rattle.graph.proofs.filled.Filled.ends_have.Goals as goal

@@ -1,5 +1,5 @@
 use Rattle.std.proofs.Common.{◌≡◌}
-use Rattle.graph.specs.Laying.{its}
+use Rattle.graph.specs.RowLists.{its}
 use Rattle.graph.specs.Namesakes.{left}
 use Rattle.graph.specs.Places.{dependencies_of}
 use Rattle.graph.specs.Second.{ends_have}

@@ -1,6 +1,6 @@
 use Rattle.std.proofs.Common.{◌≡◌, ◌+◌, length, Some, None, ap, ◌∙◌, arith}
 use Rattle.graph.specs.Law.{dependency_count}
-use Rattle.graph.specs.Laying.{its}
+use Rattle.graph.specs.RowLists.{its}
 use Rattle.graph.proofs.FilledTells.{packages-told, dependencies-told, few-packages, few-dependencies, finds-feature}
 use Rattle.graph.proofs.Links.{found}
 use Rattle.graph.proofs.filled.Filled.feature_item.Goals as goal

@@ -1,6 +1,6 @@
 use Rattle.std.proofs.Common.{◌≡◌, ◌+◌, length, get_or, sym, ap, ◌∙◌, subst, arith}
 use Rattle.records.specs.Graphs.{feature}
-use Rattle.graph.specs.Laying.{its, ReadsAs}
+use Rattle.graph.specs.RowLists.{its, ReadsAs}
 use Rattle.graph.specs.Places.{features_of, features_before, no_feature}
 use Rattle.graph.proofs.Befores.{features-within, features-after}
 use Rattle.graph.proofs.FilledTells.{packages-told, dependencies-told, few-packages, few-dependencies, few-features, window-length, feature-window}

@@ -1,5 +1,5 @@
 use Rattle.std.proofs.Common.{ap, ◌∙◌}
-use Rattle.graph.specs.Laying.{its}
+use Rattle.graph.specs.RowLists.{its}
 use Rattle.graph.specs.Namesakes.{left, namesake_view}
 use Rattle.graph.proofs.NamesakesLaid.{any-namesake}
 use Rattle.graph.proofs.Steps.{any_left, any-given}

@@ -1,6 +1,6 @@
 use Rattle.std.proofs.Common.{sym, ◌∙◌, arith}
 use Rattle.std.proofs.lemmas.Bool.{le-ltb}
-use Rattle.graph.specs.Laying.{its}
+use Rattle.graph.specs.RowLists.{its}
 use Rattle.graph.proofs.Befores.{proc-beyond}
 use Rattle.graph.proofs.FilledTells.{packages-told, mark-told}
 use Rattle.graph.proofs.filled.Filled.is_procedural.Goals as goal

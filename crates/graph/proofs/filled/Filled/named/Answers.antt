@@ -1,7 +1,7 @@
 use Rattle.std.proofs.Common.{◌-◌, length, Some, sym, ap, ◌∙◌}
 use Rattle.graph.specs.Depending.{depending}
 use Rattle.graph.specs.Buckets.{past}
-use Rattle.graph.specs.Laying.{its}
+use Rattle.graph.specs.RowLists.{its}
 use Rattle.graph.specs.Namesakes.{among_from}
 use Rattle.graph.proofs.FilledTells.{names-left}
 use Rattle.graph.proofs.Links.{found}

@@ -1,13 +1,13 @@
 use Rattle.std.proofs.Common.{rules, sym, ap, ◌∙◌}
 use Rattle.records.specs.Bodies.{form_in, texts}
-use Rattle.graph.specs.Laying.{its}
-use Rattle.graph.specs.Views.{owned_view}
-use Rattle.graph.specs.Second.{known, names_known}
+use Rattle.graph.specs.RowLists.{its}
+use Rattle.graph.specs.Views.{declaration_view}
+use Rattle.graph.specs.Second.{is_known, names_known}
 use Rattle.graph.proofs.Namings.{known-texts}
 use Rattle.graph.proofs.filled.Filled.names_known.Goals as goal
 
 pub returns-in-Feature : goal.returns-in-Feature
 returns-in-Feature c =
-    c.all_known-in-Feature.ensures (λ t. known (its c.args.self.now) c.args.p (form_in t)) (λ t b h. search rules)
-    ∙ known-texts (known (its c.args.self.now) c.args.p) _ (texts c.in-Feature.f.values)
-    ∙ ap (λ x. names_known (its c.args.self.now) c.args.p (owned_view x)) (sym c.in-Feature.is)
+    c.all_known-in-Feature.ensures (λ t. is_known (its c.args.self.now) c.args.p (form_in t)) (λ t b h. search rules)
+    ∙ known-texts (is_known (its c.args.self.now) c.args.p) _ (texts c.in-Feature.f.values)
+    ∙ ap (λ x. names_known (its c.args.self.now) c.args.p (declaration_view x)) (sym c.in-Feature.is)

@@ -1,5 +1,5 @@
 use Rattle.std.proofs.Common.{◌<◌, None, length, get_or, refl, rules}
-use Rattle.graph.specs.declared.index.Entry.{Entry}
+use Rattle.graph.specs.declared.index.IndexEntry.{IndexEntry}
 use Rattle.graph.proofs.Links.{linked-more}
 use Rattle.graph.proofs.index.Lists.add.Goals as goal
 
@@ -7,7 +7,7 @@ pub returns-clause-linked : goal.returns-clause-linked
 returns-clause-linked c =
     let s = c.args.self.now in
     let h = c.bucket-h.result in
-    let e : Entry = record { key = c.args.key; next = get_or s.heads h None } in
+    let e : IndexEntry = record { key = c.args.key; next = get_or s.heads h None } in
     let room : s.count < length s.entries = search rules in
     let among : h < length s.heads = search rules in
     linked-more s.entries s.heads s.count c.requires.linked e h room among c.bucket-h.ensures.value refl

@@ -2,7 +2,7 @@ use Rattle.std.proofs.Common.{◌≡◌, ◌+◌, ◌-◌, ◌∷◌, length, ge
 use Rattle.graph.specs.Depending.{depending}
 use Rattle.graph.specs.Directory.{no_depending}
 use Rattle.graph.specs.Buckets.{past}
-use Rattle.graph.specs.Laying.{its}
+use Rattle.graph.specs.RowLists.{its}
 use Rattle.graph.specs.Namesakes.{among_from, left, namesake_view}
 use Rattle.graph.proofs.FilledTells.{dependencies-told, many-depending, names-count, next-of-name}
 use Rattle.graph.proofs.NamesakesLeft.{from_end}

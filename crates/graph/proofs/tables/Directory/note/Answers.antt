@@ -43,21 +43,21 @@ returns-in-Package-clause-midway c =
     let s = c.args.so_far in
     let d = c.args.self.now in
     let after = (package-here (goal.at.returns-in-Package-clause-midway c).In-Package).1 (search rules) in
-    subst (λ m. Midway d.index.file.now (record { packages = set d.packages s.packages (record { proc_mark = m; dependency = s.dependencies; feature = s.features }); dependencies = d.dependencies; features = d.features; parts = d.parts }) (s.read + (length c.args.frame.body.now + 6)) (s.packages + 1) s.dependencies s.features) (sym c.is_marked.ensures) after
+    subst (λ m. Midway d.index.file.now (record { packages = set d.packages s.packages (record { proc_mark = m; dependency = s.dependencies; feature = s.features }); dependencies = d.dependencies; features = d.features; declarations = d.declarations }) (s.read + (length c.args.frame.body.now + 6)) (s.packages + 1) s.dependencies s.features) (sym c.is_marked.ensures) after
 
 pub returns-in-Dependency-clause-midway : goal.returns-in-Dependency-clause-midway
 returns-in-Dependency-clause-midway c =
     let s = c.args.so_far in
     let d = c.args.self.now in
     let after = (dependency-here (goal.at.returns-in-Dependency-clause-midway c).In-Dependency).2 (search rules) (search rules) in
-    subst (λ o. Midway d.index.file.now (record { packages = d.packages; dependencies = set d.dependencies s.dependencies s.read; features = d.features; parts = set d.parts (s.dependencies + s.features) (record { start = s.read; owner = o }) }) (s.read + (length c.args.frame.body.now + 6)) s.packages (s.dependencies + 1) s.features) (sym c.saturating_sub.ensures) after
+    subst (λ o. Midway d.index.file.now (record { packages = d.packages; dependencies = set d.dependencies s.dependencies s.read; features = d.features; declarations = set d.declarations (s.dependencies + s.features) (record { start = s.read; owner = o }) }) (s.read + (length c.args.frame.body.now + 6)) s.packages (s.dependencies + 1) s.features) (sym c.saturating_sub.ensures) after
 
 pub returns-in-Feature-clause-midway : goal.returns-in-Feature-clause-midway
 returns-in-Feature-clause-midway c =
     let s = c.args.so_far in
     let d = c.args.self.now in
     let after = (feature-here (goal.at.returns-in-Feature-clause-midway c).In-Feature).2 (search rules) (search rules) in
-    subst (λ o. Midway d.index.file.now (record { packages = d.packages; dependencies = d.dependencies; features = set d.features s.features s.read; parts = set d.parts (s.dependencies + s.features) (record { start = s.read; owner = o }) }) (s.read + (length c.args.frame.body.now + 6)) s.packages s.dependencies (s.features + 1)) (sym c.saturating_sub.ensures) after
+    subst (λ o. Midway d.index.file.now (record { packages = d.packages; dependencies = d.dependencies; features = set d.features s.features s.read; declarations = set d.declarations (s.dependencies + s.features) (record { start = s.read; owner = o }) }) (s.read + (length c.args.frame.body.now + 6)) s.packages s.dependencies (s.features + 1)) (sym c.saturating_sub.ensures) after
 
 pub returns-in-Header-clause-midway : goal.returns-in-Header-clause-midway
 returns-in-Header-clause-midway c =

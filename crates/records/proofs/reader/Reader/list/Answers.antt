@@ -4,4 +4,4 @@ use Rattle.records.proofs.Counts.{full}
 use Rattle.records.proofs.reader.Reader.list.Goals as goal
 
 pub returns-clause-full : goal.returns-clause-full
-returns-clause-full g c = full g.T.Text.reading c.in_ok-count.count (view c.byte.new.self) (view c.each.new.self) (sym c.in_ok-each.ensures)
+returns-clause-full g c = full g.T.FromPiece.reading c.in_ok-count.count (view c.byte.new.self) (view c.each.new.self) (sym c.in_ok-each.ensures)

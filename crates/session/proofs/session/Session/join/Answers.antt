@@ -14,8 +14,8 @@ room c =
 pub push-requires-clause-few : goal.push-requires-clause-few
 push-requires-clause-few c = omega (arith, room (goal.at.push-requires-clause-few c).Start, c.args.self.now.few)
 
-pub push-requires-clause-place : goal.push-requires-clause-place
-push-requires-clause-place c = omega (arith, room (goal.at.push-requires-clause-place c).Start, c.args.self.now.places)
+pub push-requires-clause-position : goal.push-requires-clause-position
+push-requires-clause-position c = omega (arith, room (goal.at.push-requires-clause-position c).Start, c.args.self.now.places)
 
 pub invariant_of-self : goal.invariant_of-self
 invariant_of-self c =

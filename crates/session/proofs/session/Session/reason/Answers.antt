@@ -3,7 +3,7 @@ use Rattle.std.proofs.lemmas.Bool.{cond-true, lt-ltb}
 use Rattle.std.proofs.lemmas.List.{get_or-take, length-take-le}
 use Rattle.session.specs.Held.{trail_of}
 use Rattle.session.specs.States.{reason_at}
-use Rattle.session.specs.Trails.{blank}
+use Rattle.session.specs.Trails.{no_record}
 use Rattle.session.proofs.Finding.{found-within}
 use Rattle.session.proofs.session.Session.reason.Goals as goal
 use Rattle.session.proofs.session.Session.reason.Goals.{In-Some}
@@ -25,7 +25,7 @@ returns-in-Some c =
     let s = c.args.self.now in
     let k = c.in-Some.at in
     let l = within (goal.at.returns-in-Some c).In-Some in
-    let same = get_or-take s.trail.len s.trail.places.now k blank l in
+    let same = get_or-take s.trail.len s.trail.places.now k no_record l in
     (λ i. Ok (record { first = (sym same i).first; second = (sym same i).second }))
     ∙ ap (reason_at (trail_of s)) c.in-Some.ensures
     ∙ sym (cond-true _ _ _ (lt-ltb c.args.item s.items c.if-item-self.false))

@@ -2,7 +2,7 @@ use Rattle.std.proofs.Common.{◌<◌, ◌+◌, length, drop, sym, ap, ◌∙◌
 use Rattle.std.proofs.lemmas.Bool.{and_parts}
 use Rattle.std.proofs.lemmas.List.{at_drop_more}
 use Rattle.session.specs.Held.{state}
-use Rattle.session.specs.States.{requested, all_below}
+use Rattle.session.specs.States.{request_all, all_below}
 use Rattle.session.proofs.Keeping.{kept-on}
 use Rattle.session.proofs.session.Session.request.Goals as goal
 
@@ -14,7 +14,7 @@ loop-item-preserved c =
     let r = c.request_one.ensures in
     let w : k < length xs = c.loop-item-test.true in
     let low = and_parts _ _ (sym (at_drop_more (all_below l.self.items) xs k 0 w) ∙ l.invariant.1) in (
-      ap (requested (drop (k + 1) xs)) r.state ∙ sym (at_drop_more (λ ys. requested ys (state l.self)) xs k 0 w) ∙ l.invariant.0,
+      ap (request_all (drop (k + 1) xs)) r.state ∙ sym (at_drop_more (λ ys. request_all ys (state l.self)) xs k 0 w) ∙ l.invariant.0,
       ap (λ n. all_below n (drop (k + 1) xs)) r.keeps.items ∙ low.1,
       kept-on _ _ _ r.keeps l.invariant.2,
     )

@@ -1,11 +1,11 @@
 use Rattle.std.proofs.Common.{◌≡◌, true, drop}
 use Rattle.session.specs.Held.{state, Keeps}
-use Rattle.session.specs.States.{requested, all_below}
+use Rattle.session.specs.States.{request_all, all_below}
 use Rattle.session.proofs.session.Session.request.Given as goal
 
 -- the items that are left make the rest of the trail
 abbrev pub invariant-loop-item : goal.invariant-loop-item
 invariant-loop-item l =
-    (requested (drop l.item-index l.list) (state l.self) ≡ requested l.list (state l.initial.self))
+    (request_all (drop l.item-index l.list) (state l.self) ≡ request_all l.list (state l.initial.self))
     × (all_below l.self.items (drop l.item-index l.list) ≡ true)
     × Keeps l.self l.initial.self

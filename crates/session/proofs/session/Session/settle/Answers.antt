@@ -14,7 +14,7 @@ loop-item-smaller-in-None g c =
     let s = c.loop-item.self in
     let at = worked-within (state s) c.in-Some.item (sym c.in-Some.ensures) in
     let few = at-most s.items (trail_of s) s.below s.apart in
-    omega (arith, at, few, ap (λ u. u.place) c.move_on.ensures.state, ap (λ u. u.items) c.move_on.ensures.state)
+    omega (arith, at, few, ap (λ u. u.position) c.move_on.ensures.state, ap (λ u. u.items) c.move_on.ensures.state)
 
 pub loop-item-preserved-in-None : goal.loop-item-preserved-in-None
 loop-item-preserved-in-None g c =

@@ -11,4 +11,4 @@ invariant-loop-item g l =
     × Keeps l.self l.initial.self
 
 abbrev pub decreases-loop-item : goal.decreases-loop-item
-decreases-loop-item g l = (l.budget - l.steps) + (l.self.items - l.self.place)
+decreases-loop-item g l = (l.budget - l.steps) + (l.self.items - l.self.position)

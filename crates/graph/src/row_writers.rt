@@ -1,0 +1,37 @@
+// Laying rule rows into words.
+ghost use Rattle.std.specs.Prelude.{◌≡◌, ◌+◌, ◌≤◌, length};
+ghost use Rattle.graph.specs.Limits.{row_width};
+ghost use Rattle.graph.specs.Rules.{row_words};
+ghost use Rattle.graph.specs.RowWriters.{put, write_row};
+
+use crate::rows::{HEAD_WORDS, MAX_RULE_ROWS, ROW_WIDTH, Row};
+
+// Words that rule rows are laid into, and how many rows there are so far, up to one past the limit. A sheet is handed
+// to each method of `Filled` that lays rows: in a struct with the directory, which is only read, each would take the
+// two apart again.
+#[derive(Drop)]
+pub(crate) struct RowWriter<'w> {
+    pub words: &'w mut [u32],
+    pub count: u32,
+}
+
+// The words of a row, at a place.
+fn put_row(words: &mut [u32], at: usize, row: Row)
+    requires { at + row_width ≤ length words.old }
+    ensures { words.new ≡ put words.old at (row_words row) }
+{
+    words[at..at + ROW_WIDTH].copy_from_slice(&<[u32; ROW_WIDTH]>::from(row));
+}
+
+impl RowWriter<'_> {
+    // One row more: it is written where there is room for it, and counted.
+    pub(crate) fn write_row(&mut self, row: Row)
+        ensures { self.new ≡ write_row self.old row }
+    {
+        let at = HEAD_WORDS + ROW_WIDTH * self.count as usize;
+        if at + ROW_WIDTH <= self.words.len() {
+            put_row(self.words, at, row);
+        }
+        self.count = self.count.saturating_add(1).min(MAX_RULE_ROWS + 1);
+    }
+}

@@ -1,0 +1,2 @@
+pub mod LaneNumbers
+pub mod SideNumbers

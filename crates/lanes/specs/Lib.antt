@@ -1,0 +1,3 @@
+pub mod EdgeKinds
+pub mod Lanes
+pub mod Sides

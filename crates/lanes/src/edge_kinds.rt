@@ -1,0 +1,50 @@
+// Edge kinds, and their numbers.
+ghost use Rattle.std.specs.Prelude.{◌≡◌, ok_or};
+ghost use Rattle.lanes.specs.EdgeKinds.{edge_kind_number, edge_kind_at, unknown_edge_kind};
+
+/// How many edge kinds there are.
+pub const EDGE_KINDS: u32 = 3;
+
+/// What a dependency is for.
+#[derive(Clone, Copy, PartialEq, Eq, Debug)]
+pub enum EdgeKind {
+    /// What its owner needs when it runs.
+    Normal,
+    /// What its owner needs to be built.
+    Build,
+    /// What its owner's tests need.
+    Dev,
+}
+
+/// A byte that stands for no edge kind.
+#[derive(Clone, Copy, PartialEq, Eq, Debug)]
+pub struct UnknownEdgeKind(pub u8);
+
+/// The edge kind of a byte: 0 normal, 1 build, 2 dev; no other byte has one.
+impl TryFrom<u8> for EdgeKind {
+    type Error = UnknownEdgeKind;
+
+    ghost try_from_gives = { λ byte r. r ≡ ok_or (edge_kind_at byte) (unknown_edge_kind byte) };
+
+    fn try_from(byte: u8) -> Result<EdgeKind, UnknownEdgeKind> {
+        match byte {
+            0 => Ok(EdgeKind::Normal),
+            1 => Ok(EdgeKind::Build),
+            2 => Ok(EdgeKind::Dev),
+            _ => Err(UnknownEdgeKind(byte)),
+        }
+    }
+}
+
+/// The number of an edge kind, by the same table.
+impl From<EdgeKind> for u32 {
+    ghost from_gives = { λ kind n. n ≡ edge_kind_number kind };
+
+    fn from(kind: EdgeKind) -> u32 {
+        match kind {
+            EdgeKind::Normal => 0,
+            EdgeKind::Build => 1,
+            EdgeKind::Dev => 2,
+        }
+    }
+}

@@ -1,9 +1,0 @@
--- Sides are told apart by their numbers.
-use Rattle.std.proofs.Common.{◌≡◌, ◌<◌, Some, refl, lit<}
-use Rattle.policy.specs.declared.sides.Side.{Side}
-use Rattle.policy.specs.declared.sides.Side.TheVariants.{Target, Host}
-use Rattle.policy.specs.Sides.{sides, side_number, side_at}
-
-pub side-back : (s : Side) → (side_number s < sides) × (side_at (side_number s) ≡ Some s)
-side-back Target = (lit< tt, refl)
-side-back Host = (lit< tt, refl)
