@@ -1,6 +1,6 @@
 // The lines that are printed of a graph file.
 ghost use Rattle.std.specs.Prelude.{◌≡◌};
-ghost use Rattle.graph.specs.Rules.{with_of};
+ghost use Rattle.graph.specs.Words.{with_of};
 
 use graph::{Opened, with_of};
 use rulebook::{RowEntry, WatchEntry};

@@ -12,7 +12,7 @@ use Rattle.graph.specs.declared.faults.FileFault.TheVariants.{Record, Size, Rows
 use Rattle.graph.specs.declared.rows.Opened.{Opened}
 use Rattle.graph.specs.Reading.{begin, Reading, scan, graph_in, first_reading}
 use Rattle.graph.specs.Law.{Says}
-use Rattle.graph.specs.Rules.{rows, graph_words}
+use Rattle.graph.specs.Words.{rows, graph_words}
 use Rattle.graph.specs.Second.{second_reading}
 use Rattle.graph.specs.Opening.{over, opened_as, on_checked, on_graph, words_for, open_graph}
 use Rattle.graph.specs.Limits.{max_bytes, max_rule_rows, head_words, row_width}

@@ -17,7 +17,7 @@ use Rattle.graph.specs.Opening.{over, on_checked, on_graph, words_for, open_grap
 use Rattle.graph.specs.OpeningLaw.{OpeningLaw, RulesLaw}
 use Rattle.graph.specs.Declarations.{graph_or, graph_of}
 use Rattle.graph.specs.Reading.{first_reading}
-use Rattle.graph.specs.Rules.{row_words, rows, graph_words}
+use Rattle.graph.specs.Words.{row_words, rows, graph_words}
 use Rattle.graph.specs.Second.{second_reading}
 use Rattle.graph.proofs.OpenLaw.{opening-law}
 use Rattle.graph.proofs.RulesStand.{rules-law}

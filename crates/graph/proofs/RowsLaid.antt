@@ -8,7 +8,8 @@ use Rattle.records.specs.Graphs.{Dependency, Declaration, Package, Graph}
 use Rattle.graph.specs.declared.rows.Row.{Row}
 use Rattle.graph.specs.Law.{dependencies_in, features_in}
 use Rattle.graph.specs.Places.{dep, feat, declarations_of, dependencies_of, features_of, number}
-use Rattle.graph.specs.Rules.{lane_of, place_of, when_some, when, each, unless, ask_rule, dependency_rules, value_rules, feature_rules, package_rules, row_of, rows}
+use Rattle.graph.specs.Rules.{lane_of, place_of, when_some, when, each, unless, ask_rule, dependency_rules, value_rules, feature_rules, package_rules}
+use Rattle.graph.specs.Words.{row_of, rows}
 use Rattle.graph.specs.RowLists.{ask_rows, dependency_rows, value_rows, package_rows, rows_below}
 
 -- a map over what each element gives

@@ -5,7 +5,7 @@ use Rattle.std.proofs.lemmas.Bool.{cond-true, le-leb}
 use Rattle.std.specs.List.{flat_map}
 use Rattle.graph.specs.declared.rows.Row.{Row}
 use Rattle.graph.specs.declared.row_writers.RowWriter.{RowWriter}
-use Rattle.graph.specs.Rules.{row_words}
+use Rattle.graph.specs.Words.{row_words}
 use Rattle.graph.specs.Limits.{max_rule_rows}
 use Rattle.graph.specs.RowWriters.{put, laid_in, more, write_row, write_rows}
 

@@ -12,7 +12,7 @@ use Rattle.graph.specs.declared.rows.Opened.{Opened}
 use Rattle.graph.specs.Law.{dependency_count, feature_count}
 use Rattle.graph.specs.Opening.{over, open_graph}
 use Rattle.graph.specs.Refusals.{refusal_of}
-use Rattle.graph.specs.Rules.{none, graph_words}
+use Rattle.graph.specs.Words.{none, graph_words}
 
 -- app, with a feature default that turns on the feature of a name
 abbrev pub app : List ℕ → Package

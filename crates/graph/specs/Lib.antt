@@ -6,6 +6,7 @@ pub mod Views
 pub mod Gathered
 pub mod Places
 pub mod Rules
+pub mod Words
 pub mod Second
 pub mod Opening
 pub mod Depending

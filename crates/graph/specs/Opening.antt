@@ -8,7 +8,7 @@ use Rattle.graph.specs.declared.rows.Opened.{Opened}
 use Rattle.graph.specs.Reading.{first_reading}
 use Rattle.graph.specs.Limits.{max_rule_rows, head_words, row_width}
 use Rattle.graph.specs.Law.{dependency_count, feature_count}
-use Rattle.graph.specs.Rules.{rows, graph_words}
+use Rattle.graph.specs.Words.{rows, graph_words}
 use Rattle.graph.specs.Second.{second_reading}
 
 -- words in the place of as many at the front

@@ -11,7 +11,8 @@ use Rattle.graph.specs.declared.faults.FileFault.TheVariants.{Record, Size, Rows
 use Rattle.graph.specs.declared.rows.Opened.{Opened}
 use Rattle.graph.specs.Law.{Says}
 use Rattle.graph.specs.Places.{unit, dep, feat, dependencies_of, features_of, no_dependency, no_feature}
-use Rattle.graph.specs.Rules.{Rule, lane_of, rules, rows, graph_words}
+use Rattle.graph.specs.Rules.{Rule, lane_of, rules}
+use Rattle.graph.specs.Words.{rows, graph_words}
 use Rattle.graph.specs.Opening.{over, opened_as}
 use Rattle.graph.specs.Second.{DeclarationPlace, declaration_places}
 use Rattle.graph.specs.Limits.{max_bytes, max_rule_rows, head_words, row_width}

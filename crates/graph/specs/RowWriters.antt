@@ -3,7 +3,7 @@ use Rattle.std.specs.Prelude.{ℕ, ◌+◌, ◌*◌, min, cond, List, [], ◌∷
 use Rattle.std.specs.Borrow.{MutBor}
 use Rattle.graph.specs.declared.rows.Row.{Row}
 use Rattle.graph.specs.declared.row_writers.RowWriter.{RowWriter}
-use Rattle.graph.specs.Rules.{row_words}
+use Rattle.graph.specs.Words.{row_words}
 use Rattle.graph.specs.Limits.{max_rule_rows, head_words, row_width}
 
 -- five words in the place of as many

@@ -1,15 +1,12 @@
--- The rules of a graph, over places, and its rule rows.
-use Rattle.std.specs.Prelude.{ℕ, suc, ◌+◌, Bool, true, false, cond, ◌&&◌, List, [], ◌∷◌, ◌++◌, map, length, Some, None, codes, Option, ◌==◌, nat_le, slice_index, option_map}
+-- The rules of a graph, over places.
+use Rattle.std.specs.Prelude.{ℕ, suc, ◌+◌, Bool, true, false, cond, List, [], ◌∷◌, ◌++◌, Some, None, codes, Option}
 use Rattle.std.specs.List.{flat_map}
 use Rattle.std.specs.Str.{bytes_eq}
 use Rattle.text.specs.Forms.{Form, plain, switch, strong, weak}
 use Rattle.lanes.specs.declared.lane_numbers.Lane.{Lane}
 use Rattle.records.specs.Graphs.{Dependency, Feature, Package, Graph}
-use Rattle.lanes.specs.Lanes.{bit}
-use Rattle.lanes.specs.Lanes.{lanes, lane_number, lane_at}
-use Rattle.graph.specs.declared.rows.Row.{Row}
-use Rattle.graph.specs.Law.{dependencies_in, features_in, dependency_count, feature_count}
-use Rattle.graph.specs.Places.{Item, unit, dep, feat, dependencies_of, features_of, proc_of, number}
+use Rattle.graph.specs.Law.{dependencies_in, features_in}
+use Rattle.graph.specs.Places.{Item, unit, dep, feat, dependencies_of, features_of, proc_of}
 
 -- with its premises active, `from` and `with` if there is one, a rule makes `to` active; it is of a lane, or about
 -- no dependency, and with `cross` its conclusion is on the side where the lane leads
@@ -90,40 +87,3 @@ package_rules g p a = each (dependency_rules g p) 0 (dependencies_in a.declarati
 
 abbrev pub rules : Graph → List Rule
 rules g = each (package_rules g) 0 g
-
--- rows are rules with the items by number
-abbrev pub row_of : Graph → Rule → Row
-row_of g ρ = record { from = number g ρ.from; with = option_map (number g) ρ.with; to = number g ρ.to; lane = ρ.lane; cross = ρ.cross }
-
-abbrev pub rows : Graph → List Row
-rows g = map (row_of g) (rules g)
-
--- the words of a row; the largest word means none
-abbrev pub none : ℕ
-none = 4294967295
-
-abbrev pub with_word : Option ℕ → ℕ
-with_word None = none
-with_word (Some i) = i
-
--- the number after those of the lanes means no dependency
-abbrev pub lane_word : Option Lane → ℕ
-lane_word None = lanes
-lane_word (Some l) = lane_number l
-
-abbrev pub row_words : Row → List ℕ
-row_words r = r.from ∷ with_word r.with ∷ r.to ∷ lane_word r.lane ∷ bit r.cross ∷ []
-
--- the item that a word names, if any; and the row of five words: none, if the lane or cross is out of range
-abbrev pub with_of : ℕ → Option ℕ
-with_of word = cond (word == none) None (Some word)
-
-abbrev pub row_from : List ℕ → Option Row
-row_from ws =
-    cond (nat_le (slice_index ws 3) lanes && nat_le (slice_index ws 4) 1)
-    (Some (record { from = slice_index ws 0; with = with_of (slice_index ws 1); to = slice_index ws 2; lane = lane_at (slice_index ws 3); cross = (slice_index ws 4 == 1) }))
-    None
-
--- the words of a graph: P, E, F, R, then the rows
-abbrev pub graph_words : Graph → List ℕ
-graph_words g = length g ∷ dependency_count g ∷ feature_count g ∷ length (rows g) ∷ flat_map row_words (rows g)

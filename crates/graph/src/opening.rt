@@ -9,7 +9,7 @@ ghost use Rattle.graph.specs.Limits.{max_rule_rows, head_words, row_width};
 ghost use Rattle.graph.specs.RowLists.{its};
 ghost use Rattle.graph.specs.Opening.{over, opened_as, words_for, open_graph, leaving, with_words};
 ghost use Rattle.graph.specs.OpeningLaw.{OpeningLaw, RulesLaw};
-ghost use Rattle.graph.specs.Rules.{row_words, rows, graph_words};
+ghost use Rattle.graph.specs.Words.{row_words, rows, graph_words};
 
 use crate::faults::FileFault;
 use crate::filled::Filled;

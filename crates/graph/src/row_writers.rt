@@ -1,7 +1,7 @@
 // Laying rule rows into words.
 ghost use Rattle.std.specs.Prelude.{◌≡◌, ◌+◌, ◌≤◌, length};
 ghost use Rattle.graph.specs.Limits.{row_width};
-ghost use Rattle.graph.specs.Rules.{row_words};
+ghost use Rattle.graph.specs.Words.{row_words};
 ghost use Rattle.graph.specs.RowWriters.{put, write_row};
 
 use crate::rows::{HEAD_WORDS, MAX_RULE_ROWS, ROW_WIDTH, Row};

@@ -1,7 +1,7 @@
 // Rule rows.
 ghost use Rattle.std.specs.Prelude.{◌≡◌};
 ghost use Rattle.std.specs.Result.{result_ok};
-ghost use Rattle.graph.specs.Rules.{with_of, row_words, row_from};
+ghost use Rattle.graph.specs.Words.{with_of, row_words, row_from};
 
 use lanes::{LANES, Lane};
 

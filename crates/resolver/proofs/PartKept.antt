@@ -6,7 +6,8 @@ use Rattle.records.specs.Graphs.{Graph}
 use Rattle.graph.specs.Opening.{over}
 use Rattle.graph.specs.OpeningLaw.{Resolved, IsRuleOf}
 use Rattle.graph.specs.Places.{Item, number, item_count}
-use Rattle.graph.specs.Rules.{Rule, graph_words}
+use Rattle.graph.specs.Rules.{Rule}
+use Rattle.graph.specs.Words.{graph_words}
 use Rattle.lanes.specs.declared.sides.Side.{Side}
 use Rattle.lanes.specs.declared.sides.Side.TheVariants.{Target, Host}
 use Rattle.policy.specs.Answers.{Answers, LawfulAnswers}

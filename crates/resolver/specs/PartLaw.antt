@@ -4,7 +4,7 @@ use Rattle.records.specs.Graphs.{Graph}
 use Rattle.graph.specs.Opening.{over}
 use Rattle.graph.specs.OpeningLaw.{Opens}
 use Rattle.graph.specs.Places.{Item, unit, dep, feat, item_count}
-use Rattle.graph.specs.Rules.{graph_words}
+use Rattle.graph.specs.Words.{graph_words}
 use Rattle.lanes.specs.declared.sides.Side.TheVariants.{Target}
 use Rattle.policy.specs.Answers.{Answers, LawfulAnswers}
 use Rattle.rulebook.specs.GraphTable.{graph_table}

@@ -9,7 +9,8 @@ use Rattle.graph.specs.Law.{dependency_count, feature_count}
 use Rattle.graph.specs.Opening.{over}
 use Rattle.graph.specs.OpeningLaw.{In, NamedAt, Opens, Resolved, IsRuleOf, needs, builds, defaults, asks, plainly, switches, joins}
 use Rattle.graph.specs.Places.{Item, unit, feat, number, item_count}
-use Rattle.graph.specs.Rules.{Rule, rules, rows, row_of, graph_words}
+use Rattle.graph.specs.Rules.{Rule, rules}
+use Rattle.graph.specs.Words.{rows, row_of, graph_words}
 use Rattle.graph.proofs.Opens.{rows-length}
 use Rattle.graph.proofs.RulesStand.{rule-stands, stands-rule}
 use Rattle.lanes.specs.declared.sides.Side.{Side}

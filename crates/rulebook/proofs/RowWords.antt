@@ -7,7 +7,7 @@ use Rattle.lanes.specs.Lanes.{bit}
 use Rattle.lanes.specs.Lanes.{lanes, lane_number, lane_at}
 use Rattle.lanes.proofs.LaneNumbers.{lane-back}
 use Rattle.graph.specs.declared.rows.Row.{Row}
-use Rattle.graph.specs.Rules.{row_words, row_from, with_word, with_of, lane_word, none}
+use Rattle.graph.specs.Words.{row_words, row_from, with_word, with_of, lane_word, none}
 use Rattle.rulebook.specs.Tables.{Among}
 use Rattle.rulebook.specs.Watch.{in_range, is_below}
 use Rattle.rulebook.specs.GraphTable.{row_within, row_at, row_in}

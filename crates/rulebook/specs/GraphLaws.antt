@@ -5,7 +5,7 @@ use Rattle.std.proofs.Math.Arith.{digits_div}
 use Rattle.std.proofs.lemmas.Bool.{and_parts, leb-true, ltb-true}
 use Rattle.graph.specs.declared.rows.Row.{Row}
 use Rattle.graph.specs.Limits.{max_packages, max_dependencies, max_features, max_rule_rows, max_local_items, head_words, row_width}
-use Rattle.graph.specs.Rules.{row_from}
+use Rattle.graph.specs.Words.{row_from}
 use Rattle.lanes.specs.declared.sides.Side.{Side}
 use Rattle.lanes.specs.declared.sides.Side.TheVariants.{Target, Host}
 use Rattle.lanes.specs.Sides.{sides, side_number, side_at}

@@ -2,7 +2,7 @@
 use Rattle.std.specs.Prelude.{ℕ, ◌+◌, ◌*◌, ◌/◌, Bool, true, false, cond, ◌&&◌, List, length, take, drop, Some, None, Option, nat_le, nat_lt, slice_index, option_map}
 use Rattle.graph.specs.declared.rows.Row.{Row}
 use Rattle.graph.specs.Limits.{max_packages, max_dependencies, max_features, max_rule_rows, head_words, row_width}
-use Rattle.graph.specs.Rules.{row_from}
+use Rattle.graph.specs.Words.{row_from}
 use Rattle.lanes.specs.declared.lane_numbers.Lane.{Lane}
 use Rattle.lanes.specs.declared.sides.Side.{Side}
 use Rattle.lanes.specs.Sides.{sides, side_number, side_at}

@@ -1,6 +1,6 @@
 -- What a house book means: rules between items by number.
 use Rattle.std.specs.Prelude.{ℕ, ◌+◌, ◌*◌, ◌/◌, min, cond, List, length, Some, None, Option, nat_le, nat_lt, slice_index}
-use Rattle.graph.specs.Rules.{with_of}
+use Rattle.graph.specs.Words.{with_of}
 use Rattle.rulebook.specs.declared.entries.ItemRule.{ItemRule}
 use Rattle.rulebook.specs.Tables.{Table, max_items}
 use Rattle.rulebook.specs.Watch.{in_range, rule_table}

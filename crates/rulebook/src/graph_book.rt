@@ -3,7 +3,7 @@ ghost use Rattle.std.specs.Prelude.{◌≡◌, ℕ, List};
 ghost use Rattle.records.specs.Graphs.{Graph};
 ghost use Rattle.graph.specs.Opening.{over};
 ghost use Rattle.graph.specs.OpeningLaw.{Opens};
-ghost use Rattle.graph.specs.Rules.{graph_words};
+ghost use Rattle.graph.specs.Words.{graph_words};
 ghost use Rattle.policy.specs.Answers.{answers_of};
 ghost use Rattle.rulebook.specs.GraphRules.{TableOf};
 ghost use Rattle.rulebook.specs.GraphTable.{graph_table};

@@ -1,6 +1,6 @@
 use Rattle.std.proofs.Common.{rules, min, length, refl, ap, ◌∙◌}
 use Rattle.graph.specs.RowLists.{its}
-use Rattle.graph.specs.Rules.{rows}
+use Rattle.graph.specs.Words.{rows}
 use Rattle.graph.specs.RowWriters.{write_rows}
 use Rattle.graph.proofs.RowsLaid.{rows-laid}
 use Rattle.graph.proofs.SheetRows.{lays-name}

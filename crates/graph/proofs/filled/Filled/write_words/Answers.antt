@@ -3,7 +3,7 @@ use Rattle.std.proofs.lemmas.Bool.{cond-false, le-ltb}
 use Rattle.graph.specs.RowLists.{its}
 use Rattle.graph.specs.Opening.{over, opened_as, words_for, leaving}
 use Rattle.graph.specs.Limits.{max_rule_rows}
-use Rattle.graph.specs.Rules.{rows, graph_words}
+use Rattle.graph.specs.Words.{rows, graph_words}
 use Rattle.graph.proofs.FilledTells.{packages-told, dependencies-told, features-told}
 use Rattle.graph.proofs.filled.Filled.write_words.Goals as goal
 
