@@ -28,7 +28,7 @@ pub(crate) struct ReadRecord<'a> {
 }
 
 // Where a reading stands: the number and the start of the next record, and how many packages and
-// dependencies are before it. The features before it are in the index, so that `Counts` would say too much.
+// dependencies are before it. The features before it are in the index.
 #[derive(Clone, Copy)]
 pub(crate) struct Cursor {
     pub number: usize,

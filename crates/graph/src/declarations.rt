@@ -10,7 +10,6 @@ use crate::contents::DeclarationRecord;
 use records::{Feature, Frame, Kind, Reader, RecordFault, first_frame};
 
 // The body of a feature record whose name was found new before.
-// The first reading looks the name up between the two fields, so that it cannot share this.
 fn feature_again<'a>(body: &mut Reader<'a>) -> Result<Feature<'a>, RecordFault>
     ensures { outcome_by feature_view result (view body.new) ≡ feature_again (view body.old) }
 {

@@ -17,11 +17,10 @@ ghost use Rattle.graph.specs.Filling.{is_marked, tables_of, Midway};
 use crate::contents::{Counts, DeclarationRecord};
 use crate::declarations::declaration_at;
 use crate::faults::FileFault;
-use crate::index::{Index, Key, MAX_FEATURES};
+use crate::index::{Index, Key};
+use crate::limits::{MAX_DECLARATIONS, MAX_DEPENDENCIES, MAX_FEATURES, MAX_PACKAGES};
 use crate::reading::first_reading;
-use crate::tables::{
-    DeclarationEntry, Directory, MAX_DECLARATIONS, MAX_DEPENDENCIES, MAX_PACKAGES, PackageEntry,
-};
+use crate::tables::{DeclarationEntry, Directory, PackageEntry};
 use records::{Frame, Kind, first_frame};
 
 // The records after the header begin here.
@@ -106,7 +105,6 @@ impl<'a> Directory<'a> {
         let mut after = so_far;
         after.read = so_far.read + (frame.body.len() + 6);
         let declaration = DeclarationEntry {
-            // a file is shorter, so `try_from` would only add a fault that never comes
             start: so_far.read as u32,
             owner: so_far.packages.saturating_sub(1),
         };
@@ -136,7 +134,7 @@ impl<'a> Directory<'a> {
     }
 
     // Fills the tables from the file, which the first reading has accepted with this index and these counts. It walks
-    // the records again, by the same `first_frame`, and refuses nothing, so that nothing is refused twice.
+    // the records again and refuses nothing.
     fn fill(&mut self)
         requires { (g : Graph) × Accepted self.old.index self.old.counts g }
         ensures told { (g : Graph) → Accepted self.old.index self.old.counts g → Tells self.new g }
@@ -149,7 +147,6 @@ impl<'a> Directory<'a> {
             dependencies: 0,
             features: 0,
         };
-        // A record begins where the one before it ends, and that place is noted: an iterator would hand out both.
         loop {
             let start = so_far.read;
             let Ok(frame) = first_frame(&file[start..]) else {

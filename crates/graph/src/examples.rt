@@ -6,19 +6,22 @@ use crate::faults::FileFault;
 use crate::opening::open_graph;
 use crate::rows::Opened;
 
-// The file of the packages `app`, `core` and `gen`.
-pub const EXAMPLE: [u8; 173] = [
-    4, 0, 0, 0, 1, 0, 1, 0, 7, 0, 0, 0, 2, 0, 0, 3, 97, 112, 112, 13, 0, 0, 0, 3, 0, 1, 0, 0, 1, 0,
-    4, 99, 111, 114, 101, 0, 12, 0, 0, 0, 3, 0, 2, 0, 1, 0, 1, 3, 103, 101, 110, 0, 14, 0, 0, 0, 4,
-    0, 7, 100, 101, 102, 97, 117, 108, 116, 1, 2, 105, 111, 25, 0, 0, 0, 4, 0, 2, 105, 111, 2, 8,
-    100, 101, 112, 58, 99, 111, 114, 101, 9, 99, 111, 114, 101, 63, 47, 115, 116, 100, 8, 0, 0, 0,
-    2, 0, 0, 4, 99, 111, 114, 101, 7, 0, 0, 0, 4, 0, 3, 115, 116, 100, 0, 10, 0, 0, 0, 4, 0, 2,
-    114, 116, 1, 3, 115, 116, 100, 7, 0, 0, 0, 2, 0, 0, 3, 103, 101, 110, 16, 0, 0, 0, 3, 0, 1, 0,
-    0, 0, 0, 4, 99, 111, 114, 101, 1, 2, 114, 116, 2, 0, 0, 0, 5, 0,
-];
+/// The file of a worked example, one record a line: the packages `app`, `core` and `gen`.
+pub const EXAMPLE: [u8; 173] = *b"\
+    \x04\0\0\0\x01\0\x01\0\
+    \x07\0\0\0\x02\0\0\x03app\
+    \x0d\0\0\0\x03\0\x01\0\0\x01\0\x04core\0\
+    \x0c\0\0\0\x03\0\x02\0\x01\0\x01\x03gen\0\
+    \x0e\0\0\0\x04\0\x07default\x01\x02io\
+    \x19\0\0\0\x04\0\x02io\x02\x08dep:core\x09core?/std\
+    \x08\0\0\0\x02\0\0\x04core\
+    \x07\0\0\0\x04\0\x03std\0\
+    \x0a\0\0\0\x04\0\x02rt\x01\x03std\
+    \x07\0\0\0\x02\0\0\x03gen\
+    \x10\0\0\0\x03\0\x01\0\0\0\0\x04core\x01\x02rt\
+    \x02\0\0\0\x05\0";
 
-// Opens the file of the worked example, with just as many words as it needs. The table of what is so for it, and for
-// the same file with a feature that is not there, is proved beside it.
+/// Opens the file of the worked example, with just as many words as it needs.
 pub fn open_example() -> Result<Opened, FileFault>
     ensures opened { result ≡ Ok example_opened }
     ensures table { Examples }

@@ -4,8 +4,7 @@ ghost use Rattle.graph.specs.Buckets.{Linked};
 ghost use Rattle.graph.specs.Limits.{max_features};
 ghost use Rattle.std.proofs.Props.{props};
 
-// The most features of a graph.
-pub const MAX_FEATURES: usize = 16_384;
+use crate::limits::MAX_FEATURES;
 
 // How many lists the entries are spread over.
 pub const BUCKETS: usize = 32_749;
@@ -38,7 +37,7 @@ pub struct Lists<'a> {
     pub heads: [Option<u16>; BUCKETS],
 }
 
-// An index of parts of a file, whose lists are whole.
+// An index of the declarations of a file, whose lists are whole.
 #[derive(Drop)]
 pub struct Index<'a> {
     pub file: &'a [u8],

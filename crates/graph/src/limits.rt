@@ -1,5 +1,19 @@
-// The most bytes of a file, and the most packages, dependencies, features and rule rows of a graph.
-pub use crate::index::MAX_FEATURES;
-pub use crate::reading::MAX_BYTES;
-pub use crate::rows::MAX_RULE_ROWS;
-pub use crate::tables::{MAX_DEPENDENCIES, MAX_PACKAGES};
+// The limits of a graph file.
+
+/// The most bytes of a file.
+pub const MAX_BYTES: usize = 1_048_576;
+
+/// The most packages of a graph.
+pub const MAX_PACKAGES: usize = 4_096;
+
+/// The most dependencies of a graph.
+pub const MAX_DEPENDENCIES: usize = 16_384;
+
+/// The most features of a graph.
+pub const MAX_FEATURES: usize = 16_384;
+
+/// The most rule rows of a graph.
+pub const MAX_RULE_ROWS: u32 = 262_144;
+
+// The most dependencies and features together.
+pub(crate) const MAX_DECLARATIONS: usize = 32_768;

@@ -4,7 +4,8 @@ ghost use Rattle.graph.specs.Keys.{is_key, has_key};
 ghost use Rattle.graph.specs.Buckets.{buckets, key_of, key_view, keys_of, entry_at, bucket_of, past, Linked, newest_of, IsEntry, InBucket};
 ghost use Rattle.graph.specs.Limits.{max_features};
 
-use crate::index::{BUCKETS, FACTOR, Index, IndexEntry, Key, Lists, MAX_FEATURES};
+use crate::index::{BUCKETS, FACTOR, Index, IndexEntry, Key, Lists};
+use crate::limits::MAX_FEATURES;
 
 // The bucket of a key.
 fn bucket(key: Key<'_>) -> usize

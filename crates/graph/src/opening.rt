@@ -13,13 +13,14 @@ ghost use Rattle.graph.specs.Words.{row_words, rows, graph_words};
 
 use crate::faults::FileFault;
 use crate::filled::Filled;
+use crate::limits::MAX_RULE_ROWS;
 use crate::row_writers::RowWriter;
-use crate::rows::{HEAD_WORDS, MAX_RULE_ROWS, Opened, ROW_WIDTH};
+use crate::rows::{HEAD_WORDS, Opened, ROW_WIDTH};
 use crate::tables::Directory;
 
 impl<'a> Filled<'a> {
-    // The rows of the graph are laid into the words behind the first four, as far as there is room. The answer is how
-    // many rows there are, up to one past the limit. With no words it counts, by the same walk, so that the two agree.
+    // Writes the rows of the graph into the words behind the first four, as far as there is room. The answer is how
+    // many rows there are, up to one past the limit. With no words it only counts.
     fn write_all(&self, words: &mut [u32]) -> u32
         ensures count { result ≡ min (length (rows (its self.now))) (max_rule_rows + 1) }
         ensures words { length (rows (its self.now)) ≤ max_rule_rows → head_words + row_width * length (rows (its self.now)) ≤ length words.old → words.new ≡ take head_words words.old ++ (flat_map row_words (rows (its self.now)) ++ drop (head_words + row_width * length (rows (its self.now))) words.old) }
@@ -66,7 +67,11 @@ impl<'a> Filled<'a> {
     }
 }
 
-// Opens a graph file: its rule rows are laid into the words.
+/// Opens a graph file: writes four counts and the rule rows into the words, five words for each row. Bytes behind the
+/// file's end record are free, and so are words behind the last row, which stay as they were.
+///
+/// A file is refused whose records are out of order or not well formed, that refers to what is not there, or that is
+/// beyond a limit; and words that do not suffice. A refusal writes nothing.
 pub fn open_graph(file: &[u8], words: &mut [u32]) -> Result<Opened, FileFault>
     ensures opened { ◌≡◌ {A = Result Opened FileFault × List ℕ} (result, words.new) (leaving words.old (open_graph file.now words.old)) }
     ensures law { OpeningLaw file.now words.old (with_words result words.new) }

@@ -45,7 +45,7 @@ impl<'a> Filled<'a> {
         }
     }
 
-    // The dependencies of a package. With `features` below it shares `between`; table, base and clauses differ.
+    // The dependencies of a package.
     pub(crate) fn dependencies(&self, p: u32) -> Starts<'a>
         ensures count { length result.starts.now ≡ length (dependencies_of (its self.now) p) }
         ensures records { (k : ℕ) → k < length (dependencies_of (its self.now) p) → ReadsAs self.now (slice_index result.starts.now k) (dependency (slice_index_or (dependencies_of (its self.now) p) k no_dependency)) }

@@ -13,11 +13,8 @@ ghost use Rattle.graph.specs.Views.{content_view, read_record_view, cursor_view,
 use crate::contents::{Content, Counts, Cursor, ReadRecord};
 use crate::faults::{FileFault, InRecord};
 use crate::index::{Index, Key};
-use crate::tables::{MAX_DEPENDENCIES, MAX_PACKAGES};
+use crate::limits::{MAX_BYTES, MAX_DEPENDENCIES, MAX_PACKAGES};
 use records::{Feature, Frame, Kind, Reader, RecordFault, first_frame};
-
-// The most bytes of a file.
-pub const MAX_BYTES: usize = 1_048_576;
 
 // The kind of a record, if it may stand here.
 fn kind_here(number: usize, packages: u32, kind: u16) -> Result<Kind, RecordFault>

@@ -66,7 +66,7 @@ impl<'a> Filled<'a> {
     }
 
     // Puts a question to each record, with the number of its package. A fault gets the number and the start of its
-    // record: the header, the packages up to the owner and `j` parts are before it.
+    // record: the header, the packages up to the owner and `j` dependencies and features are before it.
     fn check<F: Fn(u32, DeclarationRecord<'a>) -> Result<(), RecordFault>>(
         &self,
         known: F,

@@ -4,7 +4,8 @@ ghost use Rattle.graph.specs.Limits.{row_width};
 ghost use Rattle.graph.specs.Words.{row_words};
 ghost use Rattle.graph.specs.RowWriters.{put, write_row};
 
-use crate::rows::{HEAD_WORDS, MAX_RULE_ROWS, ROW_WIDTH, Row};
+use crate::limits::MAX_RULE_ROWS;
+use crate::rows::{HEAD_WORDS, ROW_WIDTH, Row};
 
 // Words that rule rows are laid into, and how many rows there are so far, up to one past the limit. A sheet is handed
 // to each method of `Filled` that lays rows: in a struct with the directory, which is only read, each would take the

@@ -5,9 +5,6 @@ ghost use Rattle.graph.specs.Words.{with_of, row_words, row_from};
 
 use lanes::{LANES, Lane};
 
-// The most rule rows of a graph.
-pub const MAX_RULE_ROWS: u32 = 262_144;
-
 // The words before the rows, and the words of a row.
 pub const HEAD_WORDS: usize = 4;
 

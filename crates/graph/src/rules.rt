@@ -96,7 +96,6 @@ impl<'a> Filled<'a> {
     }
 
     // From an item to each of some features of a package.
-    // One function for this loop and that of `values_rows` would take a closure longer than either.
     fn asks_rows(&self, writer: &mut RowWriter, from: u32, lane: Lane, end: u32, asks: Strings)
         ensures { writer.new ≡ write_rows writer.old (flat_map (ask_rows (its self.now) from lane end) (texts asks.entry)) }
     {

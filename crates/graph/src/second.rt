@@ -16,8 +16,7 @@ impl<'a> Filled<'a> {
         self.named(p, name).next().is_some()
     }
 
-    // Whether the end of every dependency of this name has this feature. With `all` a goal about the closure's run is
-    // left open.
+    // Whether the end of every dependency of this name has this feature.
     fn ends_have(&self, p: u32, name: &[u8], feature: &[u8]) -> bool
         ensures { result ≡ ends_have (its self.now) (dependencies_of (its self.now) p) name.now feature.now }
     {

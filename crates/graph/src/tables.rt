@@ -3,17 +3,11 @@ ghost use Rattle.std.specs.Prelude.{◌+◌, ◌≤◌, length};
 ghost use Rattle.graph.specs.Limits.{max_local_items};
 
 use crate::contents::Counts;
-use crate::index::{Index, MAX_FEATURES};
+use crate::index::Index;
+use crate::limits::{MAX_DECLARATIONS, MAX_DEPENDENCIES, MAX_FEATURES, MAX_PACKAGES};
 
-// The most packages and dependencies of a graph, and the most of dependencies and features together.
-pub const MAX_PACKAGES: usize = 4_096;
-
-pub const MAX_DEPENDENCIES: usize = 16_384;
-
-pub(crate) const MAX_DECLARATIONS: usize = 32_768;
-
-// A package: its proc mark, and the numbers of its first dependency and of its first feature. Where they end, the next
-// package's begin: an end in here would be the same number once more.
+// A package: its proc mark, and the numbers of its first dependency and of its first feature. They end where the
+// next package's begin.
 #[derive(Clone, Copy)]
 pub(crate) struct PackageEntry {
     pub proc_mark: bool,
@@ -37,7 +31,7 @@ pub(crate) struct Starts<'a> {
 }
 
 // Where everything stands in a graph file that the first reading has accepted. `packages`, `dependencies` and
-// `features` are in file order, the last two as starts of records; `parts` has both of these together, with their
+// `features` are in file order, the last two as starts of records; `declarations` has both of these together, with their
 // owners, since one look asks by package and the other goes in file order. `index` has the features by package and
 // name, and `named` the dependencies, the last one first, since a bucket's list then has them in file order. The memory
 // is fixed, since the library allocates nothing; how far each table is filled, `counts` says.
