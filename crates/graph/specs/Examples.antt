@@ -7,7 +7,7 @@ use Rattle.records.specs.Graphs.{dependency, feature, Package, Graph}
 use Rattle.records.specs.Encoding.{encode}
 use Rattle.graph.specs.declared.faults.FileFault.{FileFault}
 use Rattle.graph.specs.declared.faults.FileFault.TheVariants.{Record}
-use Rattle.refusals.specs.Bytes.{byte_of}
+use Rattle.refusals.specs.Refusals.{byte}
 use Rattle.graph.specs.declared.rows.Opened.{Opened}
 use Rattle.graph.specs.Law.{dependency_count, feature_count}
 use Rattle.graph.specs.Opening.{over, open_graph}
@@ -83,4 +83,4 @@ pub record Examples : Type 0 where
   pub opens : (words : List ℕ) → 54 ≤ length words → open_graph (encode example) words ≡ Ok (example_opened, over example_words words)
   pub refuses : (words : List ℕ) → open_graph (encode misnamed) words ≡ Err misnamed_fault
   pub refusal : refusal_of misnamed_fault ≡ record { number = 7; record_number = 4; start = 52; field = 16; prefix = 0 }
-  pub byte : byte_of (refusal_of misnamed_fault) ≡ 68
+  pub byte : byte (refusal_of misnamed_fault) ≡ 68

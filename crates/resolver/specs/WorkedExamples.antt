@@ -3,7 +3,7 @@ use Rattle.std.specs.Prelude.{◌≡◌, ℕ, true, false, List, [], ◌∷◌, 
 use Rattle.text.specs.Examples as text
 use Rattle.graph.specs.Examples as graph
 use Rattle.graph.specs.Examples.{example_words}
-use Rattle.refusals.specs.Bytes.{about_no_record}
+use Rattle.refusals.specs.Refusals.{about_no_record}
 use Rattle.policy.specs.Answers.{host_split}
 use Rattle.rulebook.specs.Tables.{Table}
 use Rattle.rulebook.specs.GraphTable.{graph_table}
