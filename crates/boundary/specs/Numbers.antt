@@ -12,10 +12,10 @@ use Rattle.session.specs.declared.calls.SessionFault.{SessionFault}
 use Rattle.session.specs.declared.trail.TrailRecord.{TrailRecord}
 use Rattle.session.specs.States.{State, open_session, request_answer, request_leaves, settle_answer, settle_leaves}
 
--- Opening: one more than the number of rows, with the words; where it is refused, 0, with the words as they were
-abbrev pub opened_number : List ℕ → Result (Opened × List ℕ) FileFault → ℕ × List ℕ
-opened_number words (Ok p) = (p.0.rows + 1, p.1)
-opened_number words (Err e) = (0, words)
+-- Opening: one more than the number of rows; where it is refused, 0
+abbrev pub opened_number : Result Opened FileFault → ℕ
+opened_number (Ok o) = o.rows + 1
+opened_number (Err e) = 0
 
 -- Settling: a refused request is the answer, and nothing is settled then
 abbrev pub unless_refused : {A : Type 0} → Result (Unit {0}) SessionFault → (SessionFault → A) → A → A

@@ -1,12 +1,10 @@
 -- The worked examples, over the definitions.
-use Rattle.std.proofs.Common.{◌≡◌, ℕ, List, ◌++◌, length, drop, Ok, Result, refl, sym, ap, ◌∙◌, lit<, arith}
+use Rattle.std.proofs.Common.{◌≡◌, ℕ, List, ◌++◌, length, drop, refl, sym, ap, ◌∙◌, lit<, arith}
 use Rattle.std.proofs.lemmas.List.{append-nil}
 use Rattle.std.proofs.Math.Seq.{drop-length}
 use Rattle.records.specs.Encoding.{encode}
-use Rattle.graph.specs.declared.faults.FileFault.{FileFault}
-use Rattle.graph.specs.declared.rows.Opened.{Opened}
-use Rattle.graph.specs.Examples.{example, example_opened, example_words}
-use Rattle.graph.specs.Opening.{over, leaving, open_graph}
+use Rattle.graph.specs.Examples.{example, example_words}
+use Rattle.graph.specs.Opening.{open_leaves}
 use Rattle.rulebook.specs.Tables.{Table}
 use Rattle.session.specs.Causes.{by_two}
 use Rattle.session.specs.States.{State, settle_run, request_leaves, settle_answer, settle_leaves}
@@ -59,9 +57,7 @@ worked-states t start asked soon nearly end e s a b d f =
 pub settle-known : (t : Table) (b : ℕ) (s u : State) → t ≡ example_table → s ≡ u → settle_answer t b s ≡ settle_answer example_table b u
 settle-known t b s u e f = ap (λ v. settle_answer v b s) e ∙ ap (settle_answer example_table b) f
 
--- opening the example file
-pub opens-example : (words left : List ℕ) (r : Result Opened FileFault) → length words ≡ 54 →
-    ◌≡◌ {A = Result Opened FileFault × List ℕ} (r, left) (leaving words (open_graph (encode example) words)) → (r ≡ Ok example_opened) × (left ≡ example_words)
-opens-example words left r l e =
-    let z : ◌≡◌ {A = Result Opened FileFault × List ℕ} (r, left) (Ok example_opened, over example_words words) = e ∙ ap (leaving words) (examples.opens words (omega (arith, l))) in
-    (ap (λ p. p.0) z, ap (λ p. p.1) z ∙ ap (λ ws. example_words ++ ws) (ap (λ n. drop n words) (sym l) ∙ drop-length words) ∙ append-nil example_words)
+-- what opening the example file leaves in as many words as it needs
+pub left-by-example : (words : List ℕ) → length words ≡ 54 → open_leaves (encode example) words ≡ example_words
+left-by-example words l =
+    examples.leaves words (omega (arith, l)) ∙ ap (λ ws. example_words ++ ws) (ap (λ n. drop n words) (sym l) ∙ drop-length words) ∙ append-nil example_words
