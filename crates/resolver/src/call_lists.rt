@@ -20,7 +20,7 @@ pub fn run_calls<B: Rulebook>(
     ensures result { result ≡ check_answers (length calls.now) (length answers.old) }
     ensures state { state session.new ≡ left_unless (B.Rulebook.table book.now) (state session.old) (map call_view calls.now) result }
     ensures answers { answers.new ≡ answers_unless (B.Rulebook.table book.now) (state session.old) (map call_view calls.now) answers.old result }
-    ensures keeps { Keeps session.new session.old }
+    ensures keeps { Keeps session.old session.new }
     ensures parts { OpenedPartLaw }
     ensures law { (n : ℕ) (before : List Made) → state session.old ≡ (history (B.Rulebook.table book.now) n before).state → result ≡ Ok tt → GoesOn (B.Rulebook.table book.now) n before (map call_view calls.now) (state session.new) answers.new }
 {

@@ -11,4 +11,4 @@ invariant-loop-k g l =
     (calls_leave t (state l.session) rest ≡ calls_leave t (state l.initial.session) (map call_view l.calls))
     × (take l.k l.answers ++ answers_from t (state l.session) rest ≡ answers_from t (state l.initial.session) (map call_view l.calls))
     × (drop (length l.calls) l.answers ≡ drop (length l.calls) l.initial.answers)
-    × Keeps l.session l.initial.session
+    × Keeps l.initial.session l.session

@@ -8,4 +8,4 @@ abbrev pub invariant-loop-item : goal.invariant-loop-item
 invariant-loop-item l =
     (request_all (drop l.item-index l.list) (state l.self) ≡ request_all l.list (state l.initial.self))
     × (all_below l.self.items (drop l.item-index l.list) ≡ true)
-    × Keeps l.self l.initial.self
+    × Keeps l.initial.self l.self
