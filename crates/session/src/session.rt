@@ -269,8 +269,8 @@ impl Session<'_> {
     ///
     /// It is refused by a rulebook of another item count.
     pub fn settle<B: Rulebook>(&mut self, book: &B, budget: u32) -> Result<Outcome, SessionFault>
-        ensures answer { result ≡ settle_answer (B.Rulebook.table book.now) budget (state self.old) }
-        ensures state { state self.new ≡ settle_leaves (B.Rulebook.table book.now) budget (state self.old) }
+        ensures answer { result ≡ settle_answer (state self.old) (B.Rulebook.table book.now) budget }
+        ensures state { state self.new ≡ settle_leaves (state self.old) (B.Rulebook.table book.now) budget }
         ensures keeps { Keeps self.old self.new }
     {
         if book.items() != self.items {
@@ -292,8 +292,8 @@ impl Session<'_> {
 
     /// Makes one call by a rulebook.
     pub fn call<B: Rulebook>(&mut self, book: &B, call: Call<'_>) -> Answer
-        ensures answer { result ≡ call_answer (B.Rulebook.table book.now) (state self.old) (call_view call.entry) }
-        ensures state { state self.new ≡ call_leaves (B.Rulebook.table book.now) (state self.old) (call_view call.entry) }
+        ensures answer { result ≡ call_answer (state self.old) (B.Rulebook.table book.now) (call_view call.entry) }
+        ensures state { state self.new ≡ call_leaves (state self.old) (B.Rulebook.table book.now) (call_view call.entry) }
         ensures keeps { Keeps self.old self.new }
     {
         match call {
