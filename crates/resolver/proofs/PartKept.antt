@@ -1,5 +1,6 @@
 -- The law of closed target parts.
-use Rattle.std.proofs.Common.{◌≡◌, ℕ, ◌<◌, ◌≤◌, ◌≢◌, Bool, true, false, T, ◌⊎◌, List, Some, None, Option, sym, refl, ap, ◌∙◌, subst, inl, inr, ⊎_elim, arith, option_map, IfSome}
+use Rattle.std.proofs.Common.{◌≡◌, ℕ, ◌<◌, ◌≤◌, ◌≢◌, Bool, true, false, ◌⊎◌, List, Some, None, Option, sym, refl, ap, ◌∙◌, subst, inl, inr, ⊎_elim, arith, option_map, IfSome}
+use Rattle.std.specs.Prelude.{IsTrue}
 use Rattle.std.proofs.lemmas.Bool.{cases_lt}
 use Rattle.lanes.specs.declared.lane_numbers.Lane.{Lane}
 use Rattle.records.specs.Graphs.{Graph}
@@ -49,7 +50,7 @@ module _ (answers : Answers) (lawful : LawfulAnswers answers) (S : ℕ → Bool)
     (t u : Table) (of : TableOf answers g t) (other : TableOf answers h u) where
   -- the package of an item is in S, and Y has its number in h
   abbrev Shared : (ℕ → Bool) → Item → Type 0
-  Shared Y x = T (S (package_of x)) × T (Y (target_number h x))
+  Shared Y x = IsTrue (S (package_of x)) × IsTrue (Y (target_number h x))
 
   -- a target item of g, by its number, is shared
   abbrev Kept : (ℕ → Bool) → ℕ → Type 0
@@ -79,12 +80,12 @@ module _ (answers : Answers) (lawful : LawfulAnswers answers) (S : ℕ → Bool)
         go l x has q (inl shared) = inl (λ m. (x, has, q, shared))
         go l x has q (inr n) = inr (λ kept. let (y, there, e, shared) = kept l in n (same-shared x y has there (e ∙ sym q) shared))
 
-    kept-mate : (m : Option Item) → Held (Has g) m → Held (λ x. Kept Y (target_number g x)) m → Held (λ x. T (Y (target_number h x))) m
+    kept-mate : (m : Option Item) → Held (Has g) m → Held (λ x. Kept Y (target_number g x)) m → Held (λ x. IsTrue (Y (target_number h x))) m
     kept-mate None has kept = tt
     kept-mate (Some x) has kept = (kept-item x has kept).1
 
     -- a rule of g from the target to the target is one of h, which Y keeps
-    kept-rule : Closed u (λ j. T (Y j)) → (ρ : Rule) → IsRuleOf g ρ → Leads answers Target ρ Target →
+    kept-rule : Closed u (λ j. IsTrue (Y j)) → (ρ : Rule) → IsRuleOf g ρ → Leads answers Target ρ Target →
         Kept Y (target_number g ρ.from) → Held (λ x. Kept Y (target_number g x)) ρ.with → Has g ρ.to × Shared Y ρ.to
     kept-rule closed ρ is_rule leads from with =
         let there = sane g resolved ρ is_rule in
@@ -101,10 +102,10 @@ module _ (answers : Answers) (lawful : LawfulAnswers answers) (S : ℕ → Bool)
           premises = inl (refl, refl);
         }) in (
           there.to,
-          (c.within, closed (target_number h ρ.from) r entry q y (some-held (λ j. T (Y j)) (target_number h) ρ.with (kept-mate ρ.with there.with with))),
+          (c.within, closed (target_number h ρ.from) r entry q y (some-held (λ j. IsTrue (Y j)) (target_number h) ρ.with (kept-mate ρ.with there.with with))),
         )
 
-    kept-closed : Closed u (λ j. T (Y j)) → Closed t (Kept Y)
+    kept-closed : Closed u (λ j. IsTrue (Y j)) → Closed t (Kept Y)
     kept-closed closed i r e q here partner low =
         let w = of.sound i r e q in
         go w.side w.goal w.rule w.is_rule w.leads w.conclusion w.premises
@@ -124,7 +125,7 @@ module _ (answers : Answers) (lawful : LawfulAnswers answers) (S : ℕ → Bool)
             (ρ.to, has, sym c, shared)
 
   one-way : (m n : ℕ) (calls others : List Call) → SessionLaw t m calls → SessionLaw u n others →
-      AskedIn S g h (history t m calls).accepted (history u n others).accepted → T (history u n others).settled →
+      AskedIn S g h (history t m calls).accepted (history u n others).accepted → IsTrue (history u n others).settled →
       (x : Item) → InPart S g x → Active (history t m calls) (target_number g x) → Active (history u n others) (target_number h x)
   one-way m n calls others law second asked settled x part active =
       second.complete settled (target_number h x)

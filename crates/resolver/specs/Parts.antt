@@ -1,6 +1,6 @@
 -- Graphs that agree on a closed target part: a set S of packages whose dependencies, where they lead from the target to the
 -- target, lead to packages in S. How a dependency that leads to the host goes on is not compared.
-use Rattle.std.specs.Prelude.{◌≡◌, ℕ, zero, suc, ◌<◌, Bool, T, List, [], ◌∷◌, length, Some}
+use Rattle.std.specs.Prelude.{IsTrue, ◌≡◌, ℕ, zero, suc, ◌<◌, Bool, List, [], ◌∷◌, length, Some}
 use Rattle.records.specs.Graphs.{Dependency, Graph}
 use Rattle.graph.specs.OpeningLaw.{DependencyAt}
 use Rattle.graph.specs.Places.{dependencies_of, features_of, proc_of}
@@ -21,7 +21,7 @@ pub record DependenciesAgree (answers : Answers) (S : ℕ → Bool) (g h : Graph
   pub edge : d.edge ≡ e.edge
   pub optional : d.optional ≡ e.optional
   pub answer : answers (lane_of g d) Target ≡ answers (lane_of h e) Target
-  pub target : answers (lane_of g d) Target ≡ Some Target → (d.end ≡ e.end) × (d.asks ≡ e.asks) × (d.defaults ≡ e.defaults) × T (S d.end)
+  pub target : answers (lane_of g d) Target ≡ Some Target → (d.end ≡ e.end) × (d.asks ≡ e.asks) × (d.defaults ≡ e.defaults) × IsTrue (S d.end)
 
 -- package p of g and of h agree: name, proc mark and features are equal, and dependencies agree place by place
 pub record PackagesAgree (answers : Answers) (S : ℕ → Bool) (g h : Graph) (p : ℕ) : Type 0 where
@@ -34,4 +34,4 @@ pub record PackagesAgree (answers : Answers) (S : ℕ → Bool) (g h : Graph) (p
 -- the graphs have equally many packages, and those in S agree
 pub record Agree (answers : Answers) (S : ℕ → Bool) (g h : Graph) : Type 0 where
   pub count : length g ≡ length h
-  pub packages : (p : ℕ) → p < length g → T (S p) → PackagesAgree answers S g h p
+  pub packages : (p : ℕ) → p < length g → IsTrue (S p) → PackagesAgree answers S g h p
