@@ -1,5 +1,5 @@
 -- The law of closed target parts.
-use Rattle.std.proofs.Common.{◌≡◌, ℕ, ◌<◌, ◌≤◌, ◌≢◌, Bool, true, false, T, ◌⊎◌, List, Some, None, Option, sym, refl, ap, ◌∙◌, subst, inl, inr, ⊎_elim, arith, option_map}
+use Rattle.std.proofs.Common.{◌≡◌, ℕ, ◌<◌, ◌≤◌, ◌≢◌, Bool, true, false, T, ◌⊎◌, List, Some, None, Option, sym, refl, ap, ◌∙◌, subst, inl, inr, ⊎_elim, arith, option_map, IfSome}
 use Rattle.std.proofs.lemmas.Bool.{cases_lt}
 use Rattle.lanes.specs.declared.lane_numbers.Lane.{Lane}
 use Rattle.records.specs.Graphs.{Graph}
@@ -12,7 +12,7 @@ use Rattle.lanes.specs.declared.sides.Side.{Side}
 use Rattle.lanes.specs.declared.sides.Side.TheVariants.{Target, Host}
 use Rattle.policy.specs.Answers.{Answers, LawfulAnswers}
 use Rattle.rulebook.specs.declared.entries.WatchEntry.{WatchEntry}
-use Rattle.rulebook.specs.Tables.{Table, Laws, Among}
+use Rattle.rulebook.specs.Tables.{Table, Laws}
 use Rattle.rulebook.specs.GraphTable.{landing, row_lead}
 use Rattle.rulebook.specs.GraphRules.{Has, number_on, Leads, TableOf}
 use Rattle.rulebook.specs.GraphLaws.{graph-laws}
@@ -37,13 +37,13 @@ host-stays : (answers : Answers) → LawfulAnswers answers → (cross : Bool) (l
 host-stays answers lawful cross None = host-landing cross (Some Host) (λ h. let z : ◌≡◌ {A = ℕ} 0 1 = cc in omega arith)
 host-stays answers lawful cross (Some l) = host-landing cross (answers l Host) (lawful l)
 
-held-among : (P : ℕ → Type 0) (f : Item → ℕ) (m : Option Item) → Among P (option_map f m) → Held (λ x. P (f x)) m
-held-among P f None h = tt
-held-among P f (Some x) h = h
+held-some : (P : ℕ → Type 0) (f : Item → ℕ) (m : Option Item) → IfSome (option_map f m) P → Held (λ x. P (f x)) m
+held-some P f None h = tt
+held-some P f (Some x) h = h
 
-among-held : (P : ℕ → Type 0) (f : Item → ℕ) (m : Option Item) → Held (λ x. P (f x)) m → Among P (option_map f m)
-among-held P f None h = tt
-among-held P f (Some x) h = h
+some-held : (P : ℕ → Type 0) (f : Item → ℕ) (m : Option Item) → Held (λ x. P (f x)) m → IfSome (option_map f m) P
+some-held P f None h = tt
+some-held P f (Some x) h = h
 
 module _ (answers : Answers) (lawful : LawfulAnswers answers) (S : ℕ → Bool) (g h : Graph) (resolved : Resolved g) (agree : Agree answers S g h)
     (t u : Table) (of : TableOf answers g t) (other : TableOf answers h u) where
@@ -101,7 +101,7 @@ module _ (answers : Answers) (lawful : LawfulAnswers answers) (S : ℕ → Bool)
           premises = inl (refl, refl);
         }) in (
           there.to,
-          (c.within, closed (target_number h ρ.from) r entry q y (among-held (λ j. T (Y j)) (target_number h) ρ.with (kept-mate ρ.with there.with with))),
+          (c.within, closed (target_number h ρ.from) r entry q y (some-held (λ j. T (Y j)) (target_number h) ρ.with (kept-mate ρ.with there.with with))),
         )
 
     kept-closed : Closed u (λ j. T (Y j)) → Closed t (Kept Y)
@@ -117,8 +117,8 @@ module _ (answers : Answers) (lawful : LawfulAnswers answers) (S : ℕ → Bool)
         go Host Target ρ is_rule leads c p = absurd (host-stays answers lawful ρ.cross ρ.lane leads)
         go Target Target ρ is_rule leads c p =
             let (has, shared) = ⊎_elim
-            (λ z. kept-rule closed ρ is_rule leads (subst (Kept Y) z.0 here) (held-among (Kept Y) (target_number g) ρ.with (subst (Among (Kept Y)) z.1 partner)))
-            (λ z. kept-rule closed ρ is_rule leads (subst (Among (Kept Y)) z.3 partner)
+            (λ z. kept-rule closed ρ is_rule leads (subst (Kept Y) z.0 here) (held-some (Kept Y) (target_number g) ρ.with (subst (λ o. IfSome o (Kept Y)) z.1 partner)))
+            (λ z. kept-rule closed ρ is_rule leads (subst (λ o. IfSome o (Kept Y)) z.3 partner)
             (subst (Held (λ x. Kept Y (target_number g x))) (sym z.1) (subst (Kept Y) z.2 here)))
             p in
             (ρ.to, has, sym c, shared)

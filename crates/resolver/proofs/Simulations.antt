@@ -1,6 +1,6 @@
 -- What holds of the requests, and is kept by each rule, holds of the least set: so two books are compared.
-use Rattle.std.proofs.Common.{ℕ, Bool, true, false, T, ◌⊎◌, List, Some, None, Option, inl, inr}
-use Rattle.rulebook.specs.Tables.{Table, Among}
+use Rattle.std.proofs.Common.{ℕ, Bool, true, false, T, ◌⊎◌, List, Some, None, Option, inl, inr, IfSome}
+use Rattle.rulebook.specs.Tables.{Table}
 use Rattle.session.specs.Least.{OneOf, Closed, Least}
 
 abbrev pub Decided : Type 0 → Type 0
@@ -28,16 +28,16 @@ module _ {P : Type 0} where
   holds (inl p) q = p
   holds (inr n) q = absurd q
 
-pub among-map : {P Q : ℕ → Type 0} (m : Option ℕ) → ((i : ℕ) → P i → Q i) → Among P m → Among Q m
-among-map None f h = tt
-among-map (Some i) f h = f i h
+pub some-map : {P Q : ℕ → Type 0} (m : Option ℕ) → ((i : ℕ) → P i → Q i) → IfSome m P → IfSome m Q
+some-map None f h = tt
+some-map (Some i) f h = f i h
 
 -- the least set lies in every set that is decided, holds the requests and is closed
 pub least-within : (t : Table) (xs : List ℕ) (P : ℕ → Type 0) → ((i : ℕ) → Decided (P i)) → ((i : ℕ) → OneOf xs i → P i) → Closed t P → (i : ℕ) → Least t xs i → P i
 least-within t xs P decided asked closed i least =
     holds (decided i) (least (λ j. answer (decided j))
     (λ j o. yes (decided j) (asked j o))
-    (λ j r e q x y. yes (decided e.conclusion) (closed j r e q (holds (decided j) x) (among-map e.partner (λ k. holds (decided k)) y))))
+    (λ j r e q x y. yes (decided e.conclusion) (closed j r e q (holds (decided j) x) (some-map e.partner (λ k. holds (decided k)) y))))
 
 -- item j of u's least set answers for item i of t's: for each set Y, P Y holds of the requests of t if Y holds those of
 -- u, each rule of t keeps it if each rule of u keeps Y, and of i it says that j is in Y

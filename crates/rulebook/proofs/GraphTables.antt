@@ -1,5 +1,5 @@
 -- The table of words that opening wrote is that of the graph.
-use Rattle.std.proofs.Common.{◌≡◌, ℕ, zero, suc, ◌+◌, ◌-◌, ◌*◌, ◌/◌, ◌%◌, ◌<◌, ◌≤◌, true, false, List, [], ◌∷◌, ◌++◌, length, get_or, drop, Some, None, Option, sym, refl, ap, ◌∙◌, subst, inl, inr, ⊎_elim, arith, length-append, option_map}
+use Rattle.std.proofs.Common.{◌≡◌, ℕ, zero, suc, ◌+◌, ◌-◌, ◌*◌, ◌/◌, ◌%◌, ◌<◌, ◌≤◌, true, false, List, [], ◌∷◌, ◌++◌, length, get_or, drop, Some, None, Option, sym, refl, ap, ◌∙◌, subst, inl, inr, ⊎_elim, arith, length-append, option_map, IfSome}
 use lib.Arith.{digits_mod}
 use Rattle.std.proofs.lemmas.List.{length-map, get_or-map}
 use Rattle.std.proofs.lemmas.Bool.{cond-true, and_from, le-leb, cases_lt}
@@ -19,7 +19,7 @@ use Rattle.lanes.specs.Sides.{sides, side_number, side_at}
 use Rattle.policy.specs.Answers.{Answers}
 use Rattle.rulebook.specs.declared.entries.ItemRule.{ItemRule}
 use Rattle.rulebook.specs.declared.entries.WatchEntry.{WatchEntry}
-use Rattle.rulebook.specs.Tables.{Table, Among}
+use Rattle.rulebook.specs.Tables.{Table}
 use Rattle.rulebook.specs.Watch.{watch_entry, entry_in, rule_table}
 use Rattle.rulebook.specs.GraphTable.{is_whole, local_count, row_count, row_in, landing, row_lead, item_on, rule_to, rule_on, rule_for, graph_table}
 use Rattle.rulebook.specs.GraphRules.{Has, number_on, Leads, IsWatchEntryOf, TableOf}
@@ -66,7 +66,7 @@ at_in x (y ∷ xs) d (inr m) = let (r, l, e) = at_in x xs d m in (suc r, omega a
 abbrev no_rule : Rule
 no_rule = record { from = unit 0; with = None; to = unit 0; lane = None; cross = false }
 
-held_below : (g : Graph) (m : Option Item) → Held (Has g) m → Among (λ j. j < item_count g) (option_map (number g) m)
+held_below : (g : Graph) (m : Option Item) → Held (Has g) m → IfSome (option_map (number g) m) (λ j. j < item_count g)
 held_below g None h = tt
 held_below g (Some x) h = number-low g x h
 

@@ -1,5 +1,5 @@
 -- Rows are read back from their words.
-use Rattle.std.proofs.Common.{◌≡◌, ℕ, zero, suc, ◌+◌, ◌*◌, ◌<◌, ◌≤◌, Bool, true, false, ◌&&◌, eqb, ltb, leb, List, [], ◌∷◌, ◌++◌, length, get_or, take, drop, Some, None, Option, refl, ap, ◌∙◌, arith}
+use Rattle.std.proofs.Common.{◌≡◌, ℕ, zero, suc, ◌+◌, ◌*◌, ◌<◌, ◌≤◌, Bool, true, false, ◌&&◌, eqb, ltb, leb, List, [], ◌∷◌, ◌++◌, length, get_or, take, drop, Some, None, Option, refl, ap, ◌∙◌, arith, IfSome}
 use Rattle.std.specs.List.{flat_map}
 use Rattle.std.proofs.lemmas.Bool.{cond-true, cond-false, and_from, lt-ltb, le-leb, ne_eqb}
 use Rattle.lanes.specs.declared.lane_numbers.Lane.{Lane}
@@ -8,7 +8,6 @@ use Rattle.lanes.specs.Lanes.{lanes, lane_number, lane_at}
 use Rattle.lanes.proofs.LaneNumbers.{lane-back}
 use Rattle.graph.specs.declared.rows.Row.{Row}
 use Rattle.graph.specs.Words.{row_words, row_from, with_word, with_of, lane_word, none}
-use Rattle.rulebook.specs.Tables.{Among}
 use Rattle.rulebook.specs.Watch.{in_range, is_below}
 use Rattle.rulebook.specs.GraphTable.{row_within, row_at, row_in}
 use Rattle.rulebook.specs.GraphLaws.{InRange}
@@ -22,12 +21,12 @@ from-row-on (x ∷ rs) xs (suc r) d h =
     let z : 5 * suc r ≡ suc (suc (suc (suc (suc (5 * r))))) = omega arith in
     (rest, ap (λ n. drop n (flat_map row_words (x ∷ rs) ++ xs)) z ∙ e)
 
-mate-back : (m : Option ℕ) → Among (λ i. i < none) m → with_of (with_word m) ≡ m
+mate-back : (m : Option ℕ) → IfSome m (λ i. i < none) → with_of (with_word m) ≡ m
 mate-back None h = refl
 mate-back (Some i) h = cond-false (eqb i none) None (Some i) (ne_eqb i none (λ e. omega (arith, h)))
 
 -- a row is read back from its words, if they tell its with from none
-row-from : (row : Row) → Among (λ i. i < none) row.with → row_from (row_words row) ≡ Some row
+row-from : (row : Row) → IfSome row.with (λ i. i < none) → row_from (row_words row) ≡ Some row
 row-from row h =
     cond-true (leb (lane_word row.lane) lanes && leb (bit row.cross) 1) _ None
     (and_from (leb (lane_word row.lane) lanes) (leb (bit row.cross) 1) (lane row.lane).0 (cross row.cross).0)
@@ -41,18 +40,18 @@ row-from row h =
     lane None = (refl, refl)
     lane (Some l) = let b = lane-back l in (le-leb (lane_number l) lanes (omega arith), b.1)
 
-among_below : (n : ℕ) (m : Option ℕ) → Among (λ j. j < n) m → is_below n m ≡ true
-among_below n None h = refl
-among_below n (Some j) h = lt-ltb j n h
+some_below : (n : ℕ) (m : Option ℕ) → IfSome m (λ j. j < n) → is_below n m ≡ true
+some_below n None h = refl
+some_below n (Some j) h = lt-ltb j n h
 
 pub range-in : (n : ℕ) (row : Row) → InRange n row → in_range n row.from row.with row.to ≡ true
 range-in n row h =
     and_from (ltb row.from n) (ltb row.to n && is_below n row.with) (lt-ltb row.from n h.from)
-    (and_from (ltb row.to n) (is_below n row.with) (lt-ltb row.to n h.to) (among_below n row.with h.with))
+    (and_from (ltb row.to n) (is_below n row.with) (lt-ltb row.to n h.to) (some_below n row.with h.with))
 
-among-small : (n : ℕ) (m : Option ℕ) → n ≤ none → Among (λ j. j < n) m → Among (λ j. j < none) m
-among-small n None l h = tt
-among-small n (Some j) l h = omega (arith, h)
+some-small : (n : ℕ) (m : Option ℕ) → n ≤ none → IfSome m (λ j. j < n) → IfSome m (λ j. j < none)
+some-small n None l h = tt
+some-small n (Some j) l h = omega (arith, h)
 
 -- a row in range is read back
 pub row_back : (a b c d : ℕ) (rs : List Row) (xs : List ℕ) (n r : ℕ) (o : Row) → r < length rs → InRange n (get_or rs r o) → n ≤ none →
@@ -65,5 +64,5 @@ row_back a b c d rs xs n r o low range small =
     let five : take 5 (drop (4 + 5 * r) ws) ≡ row_words row = ap (λ k. take 5 (drop k ws)) z ∙ ap (take 5) e in
     cond-true (ltb r (length rs)) (row_at n ws r) None (lt-ltb r (length rs) low)
     ∙ ap (λ w. row_within n (row_from w)) five
-    ∙ ap (row_within n) (row-from row (among-small n row.with small range.with))
+    ∙ ap (row_within n) (row-from row (some-small n row.with small range.with))
     ∙ cond-true (in_range n row.from row.with row.to) (Some row) None (range-in n row range)

@@ -1,5 +1,5 @@
 -- The graph book keeps the laws of tables, for any words. A proof, which stands here as RuleLaws does.
-use Rattle.std.specs.Prelude.{◌≡◌, ℕ, ◌+◌, ◌*◌, ◌/◌, ◌<◌, ◌≤◌, Bool, true, false, cond, ◌&&◌, List, length, take, drop, Some, None, Option, nat_le, nat_lt, slice_index, refl, option_map}
+use Rattle.std.specs.Prelude.{◌≡◌, ℕ, ◌+◌, ◌*◌, ◌/◌, ◌<◌, ◌≤◌, Bool, true, false, cond, ◌&&◌, List, length, take, drop, Some, None, Option, nat_le, nat_lt, slice_index, refl, option_map, IfSome}
 use Rattle.std.proofs.Common.{sym, ap, ◌∙◌, subst, inl, inr, arith}
 use Rattle.std.proofs.Math.Arith.{digits_div}
 use Rattle.std.proofs.lemmas.Bool.{and_parts, leb-true, ltb-true}
@@ -12,7 +12,7 @@ use Rattle.lanes.specs.Sides.{sides, side_number, side_at}
 use Rattle.policy.specs.Answers.{Answers}
 use Rattle.lanes.proofs.SideNumbers.{side-back}
 use Rattle.rulebook.specs.declared.entries.ItemRule.{ItemRule}
-use Rattle.rulebook.specs.Tables.{Laws, Among}
+use Rattle.rulebook.specs.Tables.{Laws}
 use Rattle.rulebook.specs.Watch.{in_range, is_below}
 use Rattle.rulebook.specs.GraphTable.{is_whole, local_count, row_count, row_within, row_at, row_in, landing, row_lead, item_on, rule_to, rule_on, rule_for, graph_table}
 use Rattle.rulebook.specs.RuleLaws.{cond-some, Premise, Known, rule-laws}
@@ -43,20 +43,20 @@ row_fits ws = go (is_whole ws) refl
     go true h = let p = whole_parts ws h in (p.3, λ r l. omega arith)
     go false h = (omega arith, λ r l. absurd (omega arith))
 
-below-among : (n : ℕ) (m : Option ℕ) → is_below n m ≡ true → Among (λ j. j < n) m
-below-among n None h = tt
-below-among n (Some j) h = ltb-true j n h
+below-some : (n : ℕ) (m : Option ℕ) → is_below n m ≡ true → IfSome m (λ j. j < n)
+below-some n None h = tt
+below-some n (Some j) h = ltb-true j n h
 
 pub record InRange (n : ℕ) (row : Row) : Type 0 where
   pub from : row.from < n
   pub to : row.to < n
-  pub with : Among (λ j. j < n) row.with
+  pub with : IfSome row.with (λ j. j < n)
 
 pub in-range : (n : ℕ) (row : Row) → in_range n row.from row.with row.to ≡ true → InRange n row
 in-range n row h =
     let a = and_parts (nat_lt row.from n) (nat_lt row.to n && is_below n row.with) h in
     let b = and_parts (nat_lt row.to n) (is_below n row.with) a.1 in
-    record { from = ltb-true row.from n a.0; to = ltb-true row.to n b.0; with = below-among n row.with b.1 }
+    record { from = ltb-true row.from n a.0; to = ltb-true row.to n b.0; with = below-some n row.with b.1 }
 
 within-range : (n : ℕ) (o : Option Row) (row : Row) → row_within n o ≡ Some row → in_range n row.from row.with row.to ≡ true
 within-range n None row h = absurd (let z : ◌≡◌ {A = ℕ} 0 1 = cc in omega arith)
@@ -109,7 +109,7 @@ module _ (answers : Answers) (n rows : ℕ) (ws : List ℕ) where
       by_side None q h = absurd (let z : ◌≡◌ {A = ℕ} 0 1 = cc in omega arith)
       by_side (Some s) q h = by_row s q (row_in n rows ws r) refl h
 
-  mate-low : (s : Side) (m : Option ℕ) → Among (λ j. j < n) m → Among (λ j. j < sides * n) (option_map (item_on n s) m)
+  mate-low : (s : Side) (m : Option ℕ) → IfSome m (λ j. j < n) → IfSome (option_map (item_on n s) m) (λ j. j < sides * n)
   mate-low s None h = tt
   mate-low s (Some j) h = item-low n s j h
 
@@ -129,7 +129,7 @@ module _ (answers : Answers) (n rows : ℕ) (ws : List ℕ) where
   premise-local s goal row range j (inl f) = (row.from, range.from, f)
   premise-local s goal row range j (inr m) = by-mate row.with range.with m
     where
-      by-mate : (o : Option ℕ) → Among (λ k. k < n) o → option_map (item_on n s) o ≡ Some j → (l : ℕ) × (l < n) × (item_on n s l ≡ j)
+      by-mate : (o : Option ℕ) → IfSome o (λ k. k < n) → option_map (item_on n s) o ≡ Some j → (l : ℕ) × (l < n) × (item_on n s l ≡ j)
       by-mate None a h = absurd (let z : ◌≡◌ {A = ℕ} 0 1 = cc in omega arith)
       by-mate (Some l) a h = (l, a, cc)
 

@@ -1,11 +1,11 @@
 -- A table of rules keeps the laws of tables, if its rules name items and their premises share them. This page is a
 -- proof, which a reader need not believe: it stands here because code can import what proves a trait's law from specs/ alone.
-use Rattle.std.specs.Prelude.{◌≡◌, ℕ, ◌<◌, ◌≤◌, Bool, true, false, cond, ◌⊎◌, Some, None, Option, ◌==◌, refl}
+use Rattle.std.specs.Prelude.{◌≡◌, ℕ, ◌<◌, ◌≤◌, Bool, true, false, cond, ◌⊎◌, Some, None, Option, ◌==◌, refl, IfSome}
 use Rattle.std.proofs.Common.{sym, ap, ◌∙◌, subst, inl, inr, ⊎_elim, arith}
 use Rattle.std.proofs.lemmas.Bool.{cond-true, cond-false, eqb-true, eq-eqb, ne_eqb, cases_eq}
 use Rattle.rulebook.specs.declared.entries.ItemRule.{ItemRule}
 use Rattle.rulebook.specs.declared.entries.WatchEntry.{WatchEntry}
-use Rattle.rulebook.specs.Tables.{Laws, Among, pair, max_items, max_rows}
+use Rattle.rulebook.specs.Tables.{Laws, pair, max_items, max_rows}
 use Rattle.rulebook.specs.Watch.{is_item, watch_entry, entry_in, rule_table}
 
 pub cond-some : {A : Type 0} (b : Bool) (o : Option A) (e : A) → cond b o None ≡ Some e → (b ≡ true) × (o ≡ Some e)
@@ -77,7 +77,7 @@ pub record Known (items rows r : ℕ) (ρ : ItemRule) : Type 0 where
   pub row : r < rows
   pub from : ρ.from < items
   pub to : ρ.to < items
-  pub with : Among (λ b. b < items) ρ.with
+  pub with : IfSome ρ.with (λ b. b < items)
 
 module _ (items rows : ℕ) (rule : ℕ → ℕ → Option ItemRule) where
   -- the rule that an entry is of
@@ -106,7 +106,7 @@ module _ (items rows : ℕ) (rule : ℕ → ℕ → Option ItemRule) where
     within = λ i r e h. let s = source i r e h in let k = known i r s.of s.is_rule in (low s.of i k (premise i r e s), k.row);
     below = λ i r e h. let s = source i r e h in let k = known i r s.of s.is_rule in (
       subst (λ (c : ℕ). c < items) (sym s.watch.concludes) k.to,
-      ⊎_elim (λ z. subst (Among (λ b. b < items)) (sym z.1) k.with) (λ z. subst (Among (λ b. b < items)) (sym z.1) k.from) s.watch.by,
+      ⊎_elim (λ z. subst (λ o. IfSome o (λ b. b < items)) (sym z.1) k.with) (λ z. subst (λ o. IfSome o (λ b. b < items)) (sym z.1) k.from) s.watch.by,
     );
     paired = λ a b c r h.
         let s = source a r (pair b c) h in
@@ -116,4 +116,4 @@ module _ (items rows : ℕ) (rule : ℕ → ℕ → Option ItemRule) where
     where
       low : {r : ℕ} (ρ : ItemRule) (i : ℕ) → Known items rows r ρ → Premise ρ i → i < items
       low ρ i k (inl f) = subst (λ (j : ℕ). j < items) f k.from
-      low ρ i k (inr m) = subst (Among (λ b. b < items)) m k.with
+      low ρ i k (inr m) = subst (λ o. IfSome o (λ b. b < items)) m k.with

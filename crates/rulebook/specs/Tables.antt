@@ -1,5 +1,5 @@
 -- What a rulebook means: tables of watch entries, their laws, and the question seek.
-use Rattle.std.specs.Prelude.{◌≡◌, ℕ, zero, suc, ◌+◌, ◌-◌, ◌<◌, ◌≤◌, Some, None, Option}
+use Rattle.std.specs.Prelude.{◌≡◌, ℕ, zero, suc, ◌+◌, ◌-◌, ◌<◌, ◌≤◌, Some, None, Option, IfSome}
 use Rattle.rulebook.specs.declared.entries.WatchEntry.{WatchEntry}
 use Rattle.rulebook.specs.declared.entries.RowEntry.{RowEntry}
 
@@ -17,11 +17,6 @@ pub record Table : Type 0 where
   pub rows : ℕ
   pub entry : ℕ → ℕ → Option WatchEntry
 
--- X holds of the item, if there is one
-abbrev pub Among : (ℕ → Type 0) → Option ℕ → Type 0
-Among X None = Unit {0}
-Among X (Some i) = X i
-
 abbrev pub pair : ℕ → ℕ → WatchEntry
 pair partner conclusion = record { partner = Some partner; conclusion = conclusion }
 
@@ -32,7 +27,7 @@ pub record Laws (t : Table) : Type 0 where
   -- there is nothing beyond the counts
   pub within : (i r : ℕ) (e : WatchEntry) → t.entry i r ≡ Some e → (i < t.items) × (r < t.rows)
   -- entries name items
-  pub below : (i r : ℕ) (e : WatchEntry) → t.entry i r ≡ Some e → (e.conclusion < t.items) × Among (λ b. b < t.items) e.partner
+  pub below : (i r : ℕ) (e : WatchEntry) → t.entry i r ≡ Some e → (e.conclusion < t.items) × IfSome e.partner (λ b. b < t.items)
   -- a pair rule is watched from both of its premises
   pub paired : (a b c r : ℕ) → t.entry a r ≡ Some (pair b c) → t.entry b r ≡ Some (pair a c)
 

@@ -1,6 +1,6 @@
 -- Derivations of items from the items asked for: what is derived is in the least set.
-use Rattle.std.proofs.Common.{◌≡◌, ℕ, ◌⊎◌, List, [], ◌∷◌, ◌++◌, Some, None, Option, inl, inr, ⊎_elim}
-use Rattle.rulebook.specs.Tables.{Table, Among, pair}
+use Rattle.std.proofs.Common.{◌≡◌, ℕ, ◌⊎◌, List, [], ◌∷◌, ◌++◌, Some, None, Option, inl, inr, ⊎_elim, IfSome}
+use Rattle.rulebook.specs.Tables.{Table, pair}
 use Rattle.session.specs.Least.{OneOf, Least}
 
 -- the items asked for, and the conclusion of each rule whose premises are derived
@@ -10,7 +10,7 @@ pub data Derived (table : Table) (asked : List ℕ) : ℕ → Type 0 where
   both : {i r b c : ℕ} → table.entry i r ≡ Some (pair b c) → Derived table asked i → Derived table asked b → Derived table asked c
 
 pub derived_by : (table : Table) (asked : List ℕ) (i r : ℕ) (b : Option ℕ) (c : ℕ) → table.entry i r ≡ Some (record { partner = b; conclusion = c }) →
-    Derived table asked i → Among (Derived table asked) b → Derived table asked c
+    Derived table asked i → IfSome b (Derived table asked) → Derived table asked c
 derived_by table asked i r None c e d p = alone e d
 derived_by table asked i r (Some b) c e d p = both e d p
 

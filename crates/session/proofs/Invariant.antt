@@ -1,17 +1,17 @@
 -- The invariant of a session's state by one rulebook, and the three changes that keep its core.
-use Rattle.std.proofs.Common.{◌≡◌, ℕ, ◌+◌, ◌<◌, ◌≤◌, false, T, ◌⊎◌, List, [], ◌∷◌, ◌++◌, length, take, drop, Some, None, Option, sym, refl, ap, ◌∙◌, subst, inl, inr, ⊎_elim, arith, add-one}
+use Rattle.std.proofs.Common.{◌≡◌, ℕ, ◌+◌, ◌<◌, ◌≤◌, false, T, ◌⊎◌, List, [], ◌∷◌, ◌++◌, length, take, drop, Some, None, Option, sym, refl, ap, ◌∙◌, subst, inl, inr, ⊎_elim, arith, add-one, IfSome}
 use Rattle.std.proofs.lemmas.Bool.{cases_lt}
 use Rattle.std.proofs.lemmas.List.{length-drop, length-append, take-append-le, drop-append-le}
 use Rattle.rulebook.specs.declared.entries.WatchEntry.{WatchEntry}
 use Rattle.rulebook.specs.declared.entries.RowEntry.{RowEntry}
-use Rattle.rulebook.specs.Tables.{Table, Among, Laws, seek}
+use Rattle.rulebook.specs.Tables.{Table, Laws, seek}
 use Rattle.session.specs.declared.trail.TrailRecord.{TrailRecord}
 use Rattle.session.specs.Trails.{active}
 use Rattle.session.specs.States.{State, with_trail, with_position}
 use Rattle.session.specs.Least.{OneOf}
 use Rattle.session.specs.SessionLaw.{sum_active}
 use Rattle.session.proofs.Seeks.{Bare, First, seek-none, seek-some}
-use Rattle.session.proofs.TrailFacts.{Active, At, Head, active-left, active-cases, active-one, take_next, at-active, at-inside, among_map}
+use Rattle.session.proofs.TrailFacts.{Active, At, Head, active-left, active-cases, active-one, take_next, at-active, at-inside, some_map}
 use Rattle.session.proofs.ActiveSums.{total, total-push, total-length, sum_active-push, sum_active-most, sum_active_less}
 use Rattle.session.proofs.EntryCounts.{entries_before, before-moved, before-taken, before-push}
 use Rattle.session.proofs.Derivations.{Derived}
@@ -80,7 +80,7 @@ module _ (table : Table) (laws : Laws table) (asked : List ℕ) (k : ℕ) (s : S
 
   -- the worked place moves past an entry whose rule fires
   pub row-core : (x : TrailRecord) (xs : List TrailRecord) (f : RowEntry) → At s x xs → seek table x.item s.row ≡ Some f →
-      (Among (Active s) f.entry.partner → Active s f.entry.conclusion) → Core table asked k s → Core table asked (k + 1) (with_position s s.position (f.row + 1))
+      (IfSome f.entry.partner (Active s) → Active s f.entry.conclusion) → Core table asked k s → Core table asked (k + 1) (with_position s s.position (f.row + 1))
   row-core x xs f d e does c = record {
     inside = c.inside;
     fresh = λ z. absurd (no_head _ x xs z d);
@@ -98,13 +98,13 @@ module _ (table : Table) (laws : Laws table) (asked : List ℕ) (k : ℕ) (s : S
       news r i (inl h) = inl (inl h)
       news r i (inr h) = ⊎_elim (λ (z : r < s.row). inl (inr (h.0, z))) (λ (z : s.row ≤ r). inr (head_from _ x xs d i h.0, (z, h.1))) (cases_lt r s.row)
 
-      fires : (r : ℕ) (y : WatchEntry) → table.entry x.item r ≡ Some y → (s.row ≤ r) × (r < f.row + 1) → Among (Active s) y.partner → Active s y.conclusion
+      fires : (r : ℕ) (y : WatchEntry) → table.entry x.item r ≡ Some y → (s.row ≤ r) × (r < f.row + 1) → IfSome y.partner (Active s) → Active s y.conclusion
       fires r y q h a = ⊎_elim
           (λ (z : r < f.row). absurd (no_entry _ y (first.bare r h.0 z) q))
           (λ (z : f.row ≤ r).
           let same : f.row ≡ r = omega (arith, h.1) in
           let w : f.entry ≡ y = let o = first.here in let u = ap (table.entry x.item) same in cc in
-          subst (λ (v : WatchEntry). Among (Active s) v.partner → Active s v.conclusion) w does a)
+          subst (λ (v : WatchEntry). IfSome v.partner (Active s) → Active s v.conclusion) w does a)
           (cases_lt r f.row)
 
   -- a derived item joins the trail
@@ -115,7 +115,7 @@ module _ (table : Table) (laws : Laws table) (asked : List ℕ) (k : ℕ) (s : S
     low = c.low;
     sound = λ i h. ⊎_elim (c.sound i) (λ v. subst (Derived table asked) (active-one x i v) dx) (active-cases s.trail (x ∷ []) i h);
     fired = λ i r e q w a. active-left s.trail (x ∷ []) e.conclusion
-        (c.fired i r e q (was r i w) (among_map (Worked (with_trail s (s.trail ++ x ∷ [])) r) (Worked s r) (was r) e.partner a));
+        (c.fired i r e q (was r i w) (some_map (Worked (with_trail s (s.trail ++ x ∷ [])) r) (Worked s r) (was r) e.partner a));
     spent = c.spent ∙ sym (before-push table s.trail s.position s.row x c.inside c.fresh);
     whole = λ w. sum_active-push w s.trail x s.items lt off ∙ ap (λ j. j + w x.item) (c.whole w) ∙ sym (total-push w s.trail x);
   }

@@ -1,11 +1,11 @@
 -- What the calls on a session keep, and so every history.
-use Rattle.std.proofs.Common.{◌≡◌, ℕ, ◌+◌, ◌<◌, Bool, true, false, cond, not, ◌&&◌, T, List, [], ◌∷◌, ◌++◌, drop, Some, None, Option, sym, refl, ap, ◌∙◌, subst, inl, inr, ⊎_elim, arith, append_assoc, append-nil, eqb-true, ltb-true, ltb}
+use Rattle.std.proofs.Common.{◌≡◌, ℕ, ◌+◌, ◌<◌, Bool, true, false, cond, not, ◌&&◌, T, List, [], ◌∷◌, ◌++◌, drop, Some, None, Option, sym, refl, ap, ◌∙◌, subst, inl, inr, ⊎_elim, arith, append_assoc, append-nil, eqb-true, ltb-true, ltb, IfSome}
 use Rattle.std.specs.List.{fold}
 use Rattle.std.proofs.lemmas.Bool.{and_parts}
 use Rattle.std.proofs.lemmas.Float.{T_from_true}
 use Rattle.std.proofs.lemmas.List.{drop-append-le}
 use Rattle.rulebook.specs.declared.entries.RowEntry.{RowEntry}
-use Rattle.rulebook.specs.Tables.{Table, Among, Laws, seek}
+use Rattle.rulebook.specs.Tables.{Table, Laws, seek}
 use Rattle.session.specs.declared.trail.TrailRecord.{TrailRecord}
 use Rattle.session.specs.Trails.{active, grants, cause_of}
 use Rattle.session.specs.States.{State, with_trail, with_position, request_one, request_all, all_below, take_entry, outcome_of, settle_run, fits}
@@ -13,7 +13,7 @@ use Rattle.session.specs.Least.{OneOf}
 use Rattle.session.specs.Histories.{Call, request, settle, active as active_call, reason, History, history}
 use Rattle.session.proofs.Pasts.{begun, reported, after_request, after_settle, called, past-history}
 use Rattle.session.proofs.Seeks.{seek-some}
-use Rattle.session.proofs.TrailFacts.{Active, At, active-left, active-right, active-head, at-active, among_map}
+use Rattle.session.proofs.TrailFacts.{Active, At, active-left, active-right, active-head, at-active, some_map}
 use Rattle.session.proofs.ActiveSums.{sum_active-none}
 use Rattle.session.proofs.Derivations.{Derived, given, derived_by, derived_mono, one-left, one-right, one-cases}
 use Rattle.session.proofs.SettleKeeps.{Ended, settled-keeps, reported-steps}
@@ -30,13 +30,13 @@ pub true_from_T : (b : Bool) → T b → b ≡ true
 true_from_T true h = refl
 true_from_T false h = absurd h
 
-granted-from : (s : State) (b : Option ℕ) → Among (Active s) b → grants s.trail b ≡ true
+granted-from : (s : State) (b : Option ℕ) → IfSome b (Active s) → grants s.trail b ≡ true
 granted-from s None h = refl
 granted-from s (Some b) h = true_from_T (active s.trail b) h
 
-granted-among : (s : State) (b : Option ℕ) → grants s.trail b ≡ true → Among (Active s) b
-granted-among s None h = tt
-granted-among s (Some b) h = T_from_true _ h
+granted-some : (s : State) (b : Option ℕ) → grants s.trail b ≡ true → IfSome b (Active s)
+granted-some s None h = tt
+granted-some s (Some b) h = T_from_true _ h
 
 pub and_not_true : (a b : Bool) → (a && not b) ≡ true → (a ≡ true) × (b ≡ false)
 and_not_true true true h = absurd (cc)
@@ -74,7 +74,7 @@ module _ (table : Table) (laws : Laws table) where
           let first = seek-some table x.item s.row f e in
           let derived = derived_by table asked x.item f.row f.entry.partner f.entry.conclusion first.here
           (core.sound x.item (at-active s x xs d))
-          (among_map (Active s) (Derived table asked) core.sound f.entry.partner (granted-among s f.entry.partner t.0)) in
+          (some_map (Active s) (Derived table asked) core.sound f.entry.partner (granted-some s f.entry.partner t.0)) in
           let low : f.entry.conclusion < s.items = subst (λ m. f.entry.conclusion < m) v.1 (laws.below x.item f.row f.entry first.here).0 in
           let pushed = push-core table laws asked k s new derived t.1 low core in
           let ahead = drop-append-le s.position s.trail (new ∷ []) core.inside ∙ ap (λ l. l ++ new ∷ []) d in (

@@ -14,7 +14,7 @@ use Rattle.session.specs.Least.{Closed}
 use Rattle.session.specs.Histories.{Call, request, settle, active as active_call, reason, call_answer, call_leaves, calls_leave, answers_from, History, history}
 use Rattle.session.specs.SessionLaw.{entries, sum_active, watch_entries, Counted, SessionLaw}
 use Rattle.session.proofs.Seeks.{seek-some}
-use Rattle.session.proofs.TrailFacts.{Active, among_map}
+use Rattle.session.proofs.TrailFacts.{Active, some_map}
 use Rattle.session.proofs.ActiveSums.{total}
 use Rattle.session.proofs.EntryCounts.{before_all, before_less, before_most, watched_most}
 use Rattle.session.proofs.Derivations.{derived-least}
@@ -28,7 +28,7 @@ use Rattle.session.proofs.Reasons.{history-reasons}
 -- while a session is settled, its active items are closed by the rules
 pub settled-closed : (table : Table) (n : ℕ) (h : History) → Kept table n h → T h.settled → Closed table (Active h.state)
 settled-closed table n h kept z i r e q a b =
-    kept.invariant.core.fired i r e q (inl (all i a)) (among_map (Active h.state) (Worked h.state r) (λ j m. inl (all j m)) e.partner b)
+    kept.invariant.core.fired i r e q (inl (all i a)) (some_map (Active h.state) (Worked h.state r) (λ j m. inl (all j m)) e.partner b)
   where
     all : (j : ℕ) → Active h.state j → T (active (take h.state.position h.state.trail) j)
     all j m =

@@ -1,8 +1,7 @@
 -- Active items of a trail and of its parts, and what stands at a place of it.
-use Rattle.std.proofs.Common.{◌≡◌, ℕ, zero, suc, ◌<◌, Bool, true, false, ◌||◌, T, eqb, ◌⊎◌, List, [], ◌∷◌, ◌++◌, length, take, drop, Some, None, Option, sym, refl, ap, subst, inl, inr, arith, eqb→eq, length-drop}
+use Rattle.std.proofs.Common.{◌≡◌, ℕ, zero, suc, ◌<◌, Bool, true, false, ◌||◌, T, eqb, ◌⊎◌, List, [], ◌∷◌, ◌++◌, length, take, drop, Some, None, Option, sym, refl, ap, subst, inl, inr, arith, eqb→eq, length-drop, IfSome}
 use lib.Dec.{eqb_refl}
 use Rattle.std.proofs.lemmas.List.{take-append-drop}
-use Rattle.rulebook.specs.Tables.{Among}
 use Rattle.session.specs.declared.trail.TrailRecord.{TrailRecord}
 use Rattle.session.specs.Trails.{active}
 use Rattle.session.specs.States.{State}
@@ -95,6 +94,6 @@ pub at-inside : (s : State) (x : TrailRecord) (xs : List TrailRecord) → At s x
 at-inside s x xs d = omega (arith, length-drop s.position s.trail, ap length d)
 
 -- what holds of all X holds of a partner among them
-pub among_map : (X Y : ℕ → Type 0) → ((i : ℕ) → X i → Y i) → (b : Option ℕ) → Among X b → Among Y b
-among_map X Y h None a = tt
-among_map X Y h (Some b) a = h b a
+pub some_map : (X Y : ℕ → Type 0) → ((i : ℕ) → X i → Y i) → (b : Option ℕ) → IfSome b X → IfSome b Y
+some_map X Y h None a = tt
+some_map X Y h (Some b) a = h b a

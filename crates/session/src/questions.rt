@@ -1,6 +1,5 @@
 // Questions about the items of a session.
-ghost use Rattle.std.specs.Prelude.{◌≡◌, ◌<◌};
-ghost use Rattle.rulebook.specs.Tables.{Among};
+ghost use Rattle.std.specs.Prelude.{◌≡◌, ◌<◌, IfSome};
 ghost use Rattle.session.specs.Held.{trail_of, state};
 ghost use Rattle.session.specs.States.{active_answer, reason_answer};
 ghost use Rattle.session.specs.Trails.{active, find, grants, cause_of};
@@ -35,7 +34,7 @@ impl Session<'_> {
 
     // Whether the partner, if there is one, is active.
     pub(crate) fn grants(&self, partner: Option<u32>) -> bool
-        requires { Among (λ b. b < self.now.items) partner }
+        requires { IfSome partner (λ b. b < self.now.items) }
         ensures { result ≡ grants (trail_of self.now) partner }
     {
         match partner {
@@ -46,7 +45,7 @@ impl Session<'_> {
 
     // The trail number of the partner, if there is one.
     pub(crate) fn cause_of(&self, partner: Option<u32>) -> Option<u32>
-        requires { Among (λ b. b < self.now.items) partner }
+        requires { IfSome partner (λ b. b < self.now.items) }
         ensures { result ≡ cause_of (trail_of self.now) partner }
     {
         self.find(partner?)

@@ -1,6 +1,6 @@
 // Settling: watch entries are taken in trail order, from the worked place on.
-ghost use Rattle.std.specs.Prelude.{◌≡◌, ◌+◌, ◌<◌};
-ghost use Rattle.rulebook.specs.Tables.{Among, max_rows};
+ghost use Rattle.std.specs.Prelude.{◌≡◌, ◌+◌, ◌<◌, IfSome};
+ghost use Rattle.rulebook.specs.Tables.{max_rows};
 ghost use Rattle.session.specs.Held.{state, Keeps};
 ghost use Rattle.session.specs.States.{worked_item, with_position, conclude, take_entry, settle_answer, settle_leaves};
 
@@ -33,7 +33,7 @@ impl Session<'_> {
     // The conclusion of an entry joins the trail if its premises are active and it is not.
     fn conclude(&mut self, entry: WatchEntry)
         requires position { self.old.position < self.old.trail.len }
-        requires below { (entry.conclusion < self.old.items) × Among (λ b. b < self.old.items) entry.partner }
+        requires below { (entry.conclusion < self.old.items) × IfSome entry.partner (λ b. b < self.old.items) }
         ensures state { state self.new ≡ conclude (state self.old) entry }
         ensures keeps { Keeps self.new self.old }
     {
@@ -51,7 +51,7 @@ impl Session<'_> {
     // An entry of the worked item is taken.
     fn take(&mut self, found: RowEntry)
         requires position { self.old.position < self.old.trail.len }
-        requires below { (found.entry.conclusion < self.old.items) × Among (λ b. b < self.old.items) found.entry.partner }
+        requires below { (found.entry.conclusion < self.old.items) × IfSome found.entry.partner (λ b. b < self.old.items) }
         requires row { found.row < max_rows }
         ensures state { state self.new ≡ take_entry (state self.old) found }
         ensures keeps { Keeps self.new self.old }

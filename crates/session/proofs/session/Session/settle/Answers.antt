@@ -1,6 +1,5 @@
-use Rattle.std.proofs.Common.{◌+◌, ◌<◌, Ok, sym, ap, ◌∙◌, subst, arith}
+use Rattle.std.proofs.Common.{◌+◌, ◌<◌, Ok, sym, ap, ◌∙◌, subst, arith, IfSome}
 use Rattle.std.proofs.lemmas.Bool.{cond-true, eq-eqb}
-use Rattle.rulebook.specs.Tables.{Among}
 use Rattle.session.specs.Held.{trail_of, state}
 use Rattle.session.specs.States.{outcome_of}
 use Rattle.session.proofs.Keeping.{kept-on}
@@ -32,7 +31,7 @@ take-requires-clause-below g c =
     let l = c.loop-item in
     let f = c.in-Some-seek.field-0 in
     let first = seek-some t c.in-Some.item l.self.row f (sym c.in-Some-seek.ensures) in
-    subst (λ n. (f.entry.conclusion < n) × Among (λ b. b < n) f.entry.partner) (sym l.invariant.1) ((g.met.B.Rulebook.lawful c.args.book.now).below c.in-Some.item f.row f.entry first.here)
+    subst (λ n. (f.entry.conclusion < n) × IfSome f.entry.partner (λ b. b < n)) (sym l.invariant.1) ((g.met.B.Rulebook.lawful c.args.book.now).below c.in-Some.item f.row f.entry first.here)
 
 pub take-requires-clause-row : goal.take-requires-clause-row
 take-requires-clause-row g c =
