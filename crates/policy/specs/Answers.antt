@@ -1,10 +1,11 @@
 -- Policies by their answers.
-use Rattle.std.specs.Prelude.{ℕ, Bool, true, false, List, [], Some, None, Option, ◌≢◌, slice_index_or}
+use Rattle.std.specs.Prelude.{ℕ, Bool, true, false, [], Some, None, Option, ◌≢◌, slice_index_or}
 use Rattle.lanes.specs.declared.edge_kinds.EdgeKind.{EdgeKind}
 use Rattle.lanes.specs.declared.edge_kinds.EdgeKind.TheVariants.{Normal, Build, Dev}
 use Rattle.lanes.specs.declared.lane_numbers.Lane.{Lane}
 use Rattle.lanes.specs.declared.sides.Side.{Side}
 use Rattle.lanes.specs.declared.sides.Side.TheVariants as side
+use Rattle.policy.specs.declared.policy_table.PolicyTable.{PolicyTable}
 use Rattle.lanes.specs.Sides.{side_at, side_number}
 use Rattle.lanes.specs.Lanes.{lane_at, lane_number}
 
@@ -49,6 +50,6 @@ cut_by Dev below = None
 abbrev pub dev_cut : Answers → Answers
 dev_cut below lane s = cut_by lane.edge (below lane s)
 
--- answers in lists: for each side, where each lane leads from it
-abbrev pub answers_of : List (List (Option Side)) → Answers
-answers_of leads lane s = slice_index_or (slice_index_or leads (side_number s) []) (lane_number lane) None
+-- the answers that a table holds
+abbrev pub answers_of : PolicyTable → Answers
+answers_of table lane s = slice_index_or (slice_index_or table.leads (side_number s) []) (lane_number lane) None

@@ -9,24 +9,24 @@ use crate::answers::{Policy, answer};
 use lanes::{LANES, Lane, SIDES, Side};
 use std::array;
 
-// The answers of a policy: for each side, where each lane leads from it.
-#[derive(Clone, Copy, PartialEq, Eq, Debug)]
+/// The answers of a policy, each asked once.
+#[derive(Drop, PartialEq, Eq, Debug)]
 pub struct PolicyTable {
-    pub leads: [[Option<Side>; LANES as usize]; SIDES as usize],
+    // for each side, where each lane leads from it
+    leads: [[Option<Side>; LANES as usize]; SIDES as usize],
 }
 
 // Where each lane leads from a side.
 fn leads_from<P: Policy>(policy: &P, side: Side) -> [Option<Side>; LANES as usize]
     ensures { (lane : Lane) → slice_index_or result (lane_number lane) None ≡ P.Policy.answers policy.now lane side }
 {
-    // each place is below 6, so `try_from` would only add an error that never comes
     array::from_fn(|lane| answer(policy, lane as u32, side.into()))
 }
 
 impl PolicyTable {
-    // Asks for each answer of a policy.
-    pub fn by<P: Policy>(policy: &P) -> PolicyTable
-        ensures { (lane : Lane) (side : Side) → answers_of result.leads lane side ≡ P.Policy.answers policy.now lane side }
+    /// Asks a policy for each of its answers.
+    pub fn of<P: Policy>(policy: &P) -> PolicyTable
+        ensures { (lane : Lane) (side : Side) → answers_of result lane side ≡ P.Policy.answers policy.now lane side }
     {
         PolicyTable {
             leads: [
@@ -36,9 +36,9 @@ impl PolicyTable {
         }
     }
 
-    // Where a lane leads from a side.
-    pub fn lead(&self, lane: Lane, side: Side) -> Option<Side>
-        ensures { result ≡ answers_of self.now.leads lane side }
+    /// Where a lane leads from a side; a cut lane leads nowhere.
+    pub fn leads(&self, lane: Lane, side: Side) -> Option<Side>
+        ensures { result ≡ answers_of self.now lane side }
     {
         self.leads[u32::from(side) as usize][u32::from(lane) as usize]
     }

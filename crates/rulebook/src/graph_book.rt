@@ -18,7 +18,7 @@ use lanes::{SIDES, Side};
 use policy::{Policy, PolicyTable};
 
 // The rules of any words, with the answers of a policy.
-#[derive(Clone, Copy)]
+#[derive(Drop)]
 pub struct GraphBook<W> {
     words: W,
     told: PolicyTable,
@@ -27,20 +27,20 @@ pub struct GraphBook<W> {
 impl<W: Words> GraphBook<W> {
     // The book of some words under a policy, which is asked once.
     pub fn new<P: Policy>(words: W, policy: &P) -> GraphBook<W>
-        ensures table { graph_table (answers_of result.told.leads) (W.Words.list result.words) ≡ graph_table (P.Policy.answers policy.now) (W.Words.list words) }
-        ensures rules { (file before : List ℕ) (g : Graph) → Opens file before g → W.Words.list words ≡ over (graph_words g) before → TableOf (P.Policy.answers policy.now) g (graph_table (answers_of result.told.leads) (W.Words.list result.words)) }
+        ensures table { graph_table (answers_of result.told) (W.Words.list result.words) ≡ graph_table (P.Policy.answers policy.now) (W.Words.list words) }
+        ensures rules { (file before : List ℕ) (g : Graph) → Opens file before g → W.Words.list words ≡ over (graph_words g) before → TableOf (P.Policy.answers policy.now) g (graph_table (answers_of result.told) (W.Words.list result.words)) }
     {
         GraphBook {
             words,
-            told: PolicyTable::by(policy),
+            told: PolicyTable::of(policy),
         }
     }
 }
 
 impl<W: Words> Rulebook for GraphBook<W> {
-    ghost table = { λ s. graph_table (answers_of s.told.leads) (W.Words.list s.words) };
+    ghost table = { λ s. graph_table (answers_of s.told) (W.Words.list s.words) };
 
-    ghost lawful = { λ b. graph-laws (answers_of b.told.leads) (W.Words.list b.words) };
+    ghost lawful = { λ b. graph-laws (answers_of b.told) (W.Words.list b.words) };
 
     fn items(&self) -> u32 {
         SIDES * local_count(self.words.words())

@@ -97,10 +97,10 @@ impl<'a> SideRows<'a> {
 
     // Where a lane leads.
     fn lead(&self, lane: Option<Lane>) -> Option<Side>
-        ensures { result ≡ row_lead (answers_of self.now.told.now.leads) self.now.side lane }
+        ensures { result ≡ row_lead (answers_of self.now.told.now) self.now.side lane }
     {
         let (told, side) = (self.told, self.side);
-        lane.map_or(Some(side), |lane| told.lead(lane, side))
+        lane.map_or(Some(side), |lane| told.leads(lane, side))
     }
 
     // The rule of a row on this side, with its conclusion on another.
@@ -120,7 +120,7 @@ impl<'a> SideRows<'a> {
 impl RuleRows for SideRows<'_> {
     ghost count = { λ s. s.rows };
 
-    ghost rule = { λ s r. rule_on (answers_of s.told.now.leads) s.items s.side (row_in s.items s.rows s.words.now r) };
+    ghost rule = { λ s r. rule_on (answers_of s.told.now) s.items s.side (row_in s.items s.rows s.words.now r) };
 
     fn count(&self) -> u32 {
         self.rows
