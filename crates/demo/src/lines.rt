@@ -1,8 +1,6 @@
 // The lines that are printed of a graph file.
-ghost use Rattle.std.specs.Prelude.{◌≡◌};
-ghost use Rattle.graph.specs.Words.{with_of};
-
-use graph::{Opened, with_of};
+use graph::{ItemRule, Opened, Row};
+use lanes::LANES;
 use rulebook::{RowEntry, WatchEntry};
 use session::{Reason, TrailRecord};
 use std::fmt;
@@ -30,57 +28,25 @@ impl fmt::Display for Counts {
     }
 }
 
-// The second premise of a row, if it has one.
-#[derive(Clone, Copy)]
-pub struct With {
-    item: Option<u32>,
-}
-
-impl From<u32> for With {
-    ghost from_gives = { λ word with. with.item ≡ with_of word };
-
-    // Of the second word of a row.
-    fn from(word: u32) -> With {
-        With {
-            item: with_of(word),
-        }
-    }
-}
-
-impl fmt::Display for With {
-    fn fmt<W: fmt::Write>(&self, f: &mut fmt::Formatter<W>) -> fmt::Result {
-        match self.item {
-            Some(item) => write!(f, "{item}"),
-            None => write!(f, "-"),
-        }
-    }
-}
-
-// A rule row, with its number.
+// A rule row, with its number. A row about no dependency has the number after those of the lanes.
 #[derive(Clone, Copy)]
 pub struct RowLine {
-    pub number: usize,
-    pub from: u32,
-    pub with: With,
-    pub to: u32,
-    pub lane: u32,
-    pub cross: u32,
+    pub number: u32,
+    pub row: Row,
 }
 
 impl fmt::Display for RowLine {
     fn fmt<W: fmt::Write>(&self, f: &mut fmt::Formatter<W>) -> fmt::Result {
-        let RowLine {
-            number,
-            from,
-            with,
-            to,
-            lane,
-            cross,
-        } = *self;
-        write!(
-            f,
-            "row {number}: from {from} with {with} to {to} lane {lane} cross {cross}"
-        )
+        let RowLine { number, row } = *self;
+        let Row { rule, lane, cross } = row;
+        let ItemRule { from, with, to } = rule;
+        let (lane, cross) = (lane.map_or(LANES, u32::from), u32::from(cross));
+        write!(f, "row {number}: from {from} with ")?;
+        match with {
+            Some(with) => write!(f, "{with}")?,
+            None => write!(f, "-")?,
+        }
+        write!(f, " to {to} lane {lane} cross {cross}")
     }
 }
 

@@ -1,7 +1,8 @@
 // What is printed of a graph and of a session on it.
-use crate::lines::{Counts, RowLine, SettledLine, TrailLine, WatchLine, With};
+use crate::lines::{Counts, RowLine, SettledLine, TrailLine, WatchLine};
 use crate::opened::OpenedGraph;
-use graph::ROW_WIDTH;
+use graph::{Item, LocalItem};
+use lanes::Side;
 use policy::HostSplit;
 use refusals::Refusal;
 use rulebook::{GraphBook, Rulebook};
@@ -19,17 +20,12 @@ pub fn print_counts(out: &mut impl Write, graph: &OpenedGraph) -> anyhow::Result
 
 // Prints the rule rows of a graph, each with its number.
 fn print_rows(out: &mut impl Write, graph: &OpenedGraph) -> anyhow::Result<()> {
-    let (rows, _) = graph.rows().as_chunks::<ROW_WIDTH>();
-    for (number, [from, with, to, lane, cross]) in rows.iter().enumerate() {
-        let line = RowLine {
-            number,
-            from: *from,
-            with: With::from(*with),
-            to: *to,
-            lane: *lane,
-            cross: *cross,
-        };
-        writeln!(out, "{line}")?;
+    let words = graph.graph_words();
+    for number in 0..words.rows() {
+        if let Some(row) = words.row(number) {
+            let line = RowLine { number, row };
+            writeln!(out, "{line}")?;
+        }
     }
     Ok(())
 }
@@ -45,11 +41,19 @@ fn print_watched<B: Rulebook>(out: &mut impl Write, book: &B, unit: u32) -> anyh
     Ok(())
 }
 
-// Prints what the unit of package 0 on the target watches under host-split. It is item 0; a graph without packages has
-// no items.
+// Prints what the unit of package 0 on the target watches under host-split, if there is a package.
 fn print_first_unit(out: &mut impl Write, graph: &OpenedGraph) -> anyhow::Result<()> {
-    let book = GraphBook::new(graph.words.as_slice(), &HostSplit);
-    print_watched(out, &book, 0)
+    let first = Item {
+        side: Side::Target,
+        local: LocalItem::Unit(0),
+    };
+    match graph.graph_words().item_number(first) {
+        Some(unit) => {
+            let book = GraphBook::new(graph.words.as_slice(), &HostSplit);
+            print_watched(out, &book, unit)
+        }
+        None => Ok(()),
+    }
 }
 
 // Prints the rows of a graph and what its first unit watches.

@@ -1,9 +1,8 @@
 // A graph file opened into words of the program's own.
 ghost use Rattle.std.specs.Prelude.{◌≡◌};
-ghost use Rattle.demo.specs.Lines.{row_words};
 ghost use Rattle.demo.specs.declared.opened.OpenError.TheVariants.{Refused, Memory};
 
-use graph::{FileFault, HEAD_WORDS, MAX_RULE_ROWS, Opened, ROW_WIDTH, open_graph};
+use graph::{FileFault, GraphWords, MAX_RULE_ROWS, Opened, open_graph};
 use std::alloc::{AllocError, Global};
 
 // Why there is no opened graph.
@@ -39,30 +38,28 @@ pub struct OpenedGraph {
 }
 
 impl OpenedGraph {
-    // The words of the rule rows, five for each.
-    pub fn rows(&self) -> &[u32]
-        ensures { result.now ≡ row_words self.now.counts.rows self.now.words.items }
+    // The words of the graph, to be read.
+    pub fn graph_words(&self) -> GraphWords<'_>
+        ensures { result.words.now ≡ self.now.words.items }
     {
-        let end = HEAD_WORDS + ROW_WIDTH * self.counts.rows as usize;
-        self.words.get(HEAD_WORDS..end).unwrap_or(&[])
+        GraphWords::of(self.words.as_slice())
     }
 }
 
-// the words of a graph with 1,024 rule rows, and of one with as many as there may be
-const FEW: usize = HEAD_WORDS + ROW_WIDTH * 1_024;
+// As many rule rows as most graphs have.
+const FEW_ROWS: u32 = 1_024;
 
-const MOST: usize = HEAD_WORDS + ROW_WIDTH * MAX_RULE_ROWS as usize;
-
-fn open_within(heap: Global, file: &[u8], room: usize) -> Result<OpenedGraph, OpenError> {
-    let mut words = vec![in heap; 0u32; room]?;
+// Opens the file with words for a graph of so many rows.
+fn open_within(heap: Global, file: &[u8], rows: u32) -> Result<OpenedGraph, OpenError> {
+    let mut words = vec![in heap; 0u32; GraphWords::len_with(rows)]?;
     let counts = open_graph(file, words.as_mut_slice())?;
     Ok(OpenedGraph { counts, words })
 }
 
 // Opens the file with few words, and if these are too few with as many as any graph takes.
 pub fn open_file(heap: Global, file: &[u8]) -> Result<OpenedGraph, OpenError> {
-    match open_within(heap, file, FEW) {
-        Err(OpenError::Refused(FileFault::Memory)) => open_within(heap, file, MOST),
+    match open_within(heap, file, FEW_ROWS) {
+        Err(OpenError::Refused(FileFault::Memory)) => open_within(heap, file, MAX_RULE_ROWS),
         answer => answer,
     }
 }

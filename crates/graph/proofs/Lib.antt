@@ -30,3 +30,7 @@ pub mod OpenLaw
 pub mod RulesStand
 pub mod Opens
 pub mod Worked
+pub mod WordFacts
+pub mod ItemNumbers
+pub mod RuleRanges
+pub mod RowsRead

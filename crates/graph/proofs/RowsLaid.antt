@@ -60,8 +60,8 @@ map-switch h false optional a = refl
 pub dependency-laid : (g : Graph) (p k : ℕ) (d : Dependency) → map (row_of g) (dependency_rules g p k d) ≡ dependency_rows g p (number g (dep p k)) d
 dependency-laid g p k d =
     map-dependency (row_of g) d.optional d.defaults _ _ (place_of (features_of g d.end) (codes "default")) _ (flat_map (ask_rule g p k d) d.asks)
-    ∙ ap (λ (rs : List Row). unless d.optional (record { from = p; with = None; to = number g (dep p k); lane = Some (lane_of g d); cross = false })
-    ++ (record { from = number g (dep p k); with = None; to = d.end; lane = Some (lane_of g d); cross = true } ∷ []
+    ∙ ap (λ (rs : List Row). unless d.optional (record { rule = record { from = p; with = None; to = number g (dep p k) }; lane = Some (lane_of g d); cross = false })
+    ++ (record { rule = record { from = number g (dep p k); with = None; to = d.end }; lane = Some (lane_of g d); cross = true } ∷ []
     ++ (cond d.defaults (ask_rows g (number g (dep p k)) (lane_of g d) d.end (codes "default")) [] ++ rs)))
     (map-joined (row_of g) (ask_rule g p k d) (ask_rows g (number g (dep p k)) (lane_of g d) d.end) (λ n. map-some (row_of g) (place_of (features_of g d.end) n) _) d.asks)
 

@@ -7,7 +7,7 @@ use Rattle.graph.specs.declared.rows.Row.{Row}
 use Rattle.graph.specs.declared.row_writers.RowWriter.{RowWriter}
 use Rattle.graph.specs.Words.{row_words}
 use Rattle.graph.specs.Limits.{max_rule_rows}
-use Rattle.graph.specs.RowWriters.{put, laid_in, more, write_row, write_rows}
+use Rattle.graph.specs.RowWriters.{put, with_row, more, write_row, write_rows}
 
 -- the count grows by one at each row, up to one past the limit
 count-from : (s : RowWriter) (rs : List Row) → s.count ≤ max_rule_rows + 1 → (write_rows s rs).count ≡ min (s.count + length rs) (max_rule_rows + 1)
@@ -49,8 +49,8 @@ words-from s (r ∷ rs) l room =
     let at : ℕ = 4 + 5 * n in
     let here : at + 5 ≤ length ws = omega arith in
     let c : more n ≡ n + 1 = omega arith in
-    let w : laid_in ws n r ≡ put ws at (row_words r) = cond-true _ (put ws at (row_words r)) ws (le-leb (at + 5) (length ws) here) in
-    let long : length (laid_in ws n r) ≡ length ws = ap length w ∙ put-length ws at r here in
+    let w : with_row ws n r ≡ put ws at (row_words r) = cond-true _ (put ws at (row_words r)) ws (le-leb (at + 5) (length ws) here) in
+    let long : length (with_row ws n r) ≡ length ws = ap length w ∙ put-length ws at r here in
     let t : 4 + 5 * more n ≡ at + 5 = omega arith in
     let d : 4 + 5 * (more n + length rs) ≡ (at + 5) + 5 * length rs = omega arith in
     let b : (at + 5) + 5 * length rs ≡ 4 + 5 * (n + suc (length rs)) = omega arith in

@@ -7,6 +7,7 @@ pub mod Gathered
 pub mod Places
 pub mod Rules
 pub mod Words
+pub mod Items
 pub mod Second
 pub mod Opening
 pub mod Depending

@@ -39,7 +39,7 @@ PlacedAs x e y = (e.start ≡ y.start) × (e.owner ≡ y.owner) × ReadsAs x e.s
 
 -- the row to a conclusion, and the row to the feature of a name of a package, if there is one
 abbrev pub row_to : Premises → ℕ → Row
-row_to x to = record { from = x.from; with = x.with; to = to; lane = x.lane; cross = x.cross }
+row_to x to = record { rule = record { from = x.from; with = x.with; to = to }; lane = x.lane; cross = x.cross }
 
 abbrev pub row_found : Graph → Premises → ℕ → List ℕ → List Row
 row_found g x p n = when_some (place_of (features_of g p) n) (λ j. row_to x (number g (feat p j)))
@@ -51,8 +51,8 @@ ask_rows g from lane end n = row_found g (record { from = from; with = None; lan
 -- the rows of a dependency whose number is `item`, in a package `owner`
 abbrev pub dependency_rows : Graph → ℕ → ℕ → Dependency → List Row
 dependency_rows g owner item d =
-    unless d.optional (record { from = owner; with = None; to = item; lane = Some (lane_of g d); cross = false })
-    ++ (record { from = item; with = None; to = d.end; lane = Some (lane_of g d); cross = true } ∷ []
+    unless d.optional (record { rule = record { from = owner; with = None; to = item }; lane = Some (lane_of g d); cross = false })
+    ++ (record { rule = record { from = item; with = None; to = d.end }; lane = Some (lane_of g d); cross = true } ∷ []
     ++ (cond d.defaults (ask_rows g item (lane_of g d) d.end (codes "default")) []
     ++ flat_map (ask_rows g item (lane_of g d) d.end) d.asks))
 
@@ -73,7 +73,7 @@ weak_rows g from None item d = []
 weak_rows g from (Some x) item d = row_found g (record { from = from; with = Some item; lane = Some (lane_of g d); cross = true }) d.end x
 
 abbrev pub switch_rows : Graph → ℕ → Bool → ℕ → Dependency → List Row
-switch_rows g from switches item d = when (switches && d.optional) (record { from = from; with = None; to = item; lane = Some (lane_of g d); cross = false })
+switch_rows g from switches item d = when (switches && d.optional) (record { rule = record { from = from; with = None; to = item }; lane = Some (lane_of g d); cross = false })
 
 abbrev pub one_named : Graph → ℕ → List ℕ → Bool → Option (List ℕ) → ℕ → Dependency → List Row
 one_named g from n switches x item d = cond (bytes_eq d.name n) (switch_rows g from switches item d ++ weak_rows g from x item d) []

@@ -1,15 +1,14 @@
-// Laying rule rows into words.
+// Writing rule rows into words.
 ghost use Rattle.std.specs.Prelude.{◌≡◌, ◌+◌, ◌≤◌, length};
 ghost use Rattle.graph.specs.Limits.{row_width};
 ghost use Rattle.graph.specs.Words.{row_words};
 ghost use Rattle.graph.specs.RowWriters.{put, write_row};
 
+use crate::graph_words::row_start;
 use crate::limits::MAX_RULE_ROWS;
-use crate::rows::{HEAD_WORDS, ROW_WIDTH, Row};
+use crate::rows::{ROW_WIDTH, Row};
 
-// Words that rule rows are laid into, and how many rows there are so far, up to one past the limit. A sheet is handed
-// to each method of `Filled` that lays rows: in a struct with the directory, which is only read, each would take the
-// two apart again.
+// Words that rule rows are written into, and how many rows there are so far, up to one past the limit.
 #[derive(Drop)]
 pub(crate) struct RowWriter<'w> {
     pub words: &'w mut [u32],
@@ -29,7 +28,7 @@ impl RowWriter<'_> {
     pub(crate) fn write_row(&mut self, row: Row)
         ensures { self.new ≡ write_row self.old row }
     {
-        let at = HEAD_WORDS + ROW_WIDTH * self.count as usize;
+        let at = row_start(self.count);
         if at + ROW_WIDTH <= self.words.len() {
             put_row(self.words, at, row);
         }

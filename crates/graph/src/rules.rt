@@ -8,7 +8,7 @@ ghost use Rattle.graph.specs.RowWriters.{write_rows};
 
 use crate::filled::Filled;
 use crate::row_writers::RowWriter;
-use crate::rows::Row;
+use crate::rows::{ItemRule, Row};
 use lanes::{EdgeKind, Lane};
 use records::{Dependency, Strings};
 use text::{FeatureString, read_feature_string};
@@ -27,10 +27,9 @@ impl Premises {
     fn row(self, to: u32) -> Row
         ensures { result ≡ row_to self to }
     {
+        let (from, with) = (self.from, self.with);
         Row {
-            from: self.from,
-            with: self.with,
-            to,
+            rule: ItemRule { from, with, to },
             lane: self.lane,
             cross: self.cross,
         }

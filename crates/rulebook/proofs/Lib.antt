@@ -1,6 +1,5 @@
 pub mod Scans
 pub mod SideSeeks
 pub mod ItemPlaces
-pub mod RowWords
 pub mod GraphTables
 pub mod HouseRows

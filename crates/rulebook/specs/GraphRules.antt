@@ -1,6 +1,7 @@
 -- The rules of a graph on each side, by place, and what it is for a table to be that of a graph.
 use Rattle.std.specs.Prelude.{◌≡◌, ℕ, ◌*◌, ◌<◌, ◌⊎◌, length, Some, option_map}
 use Rattle.records.specs.Graphs.{Graph}
+use Rattle.graph.specs.Items.{item_on}
 use Rattle.graph.specs.OpeningLaw.{IsRuleOf}
 use Rattle.graph.specs.Places.{Item, unit, dep, feat, dependencies_of, features_of, number, item_count}
 use Rattle.graph.specs.Rules.{Rule}
@@ -9,7 +10,7 @@ use Rattle.lanes.specs.Sides.{sides}
 use Rattle.policy.specs.Answers.{Answers}
 use Rattle.rulebook.specs.declared.entries.WatchEntry.{WatchEntry}
 use Rattle.rulebook.specs.Tables.{Table}
-use Rattle.rulebook.specs.GraphTable.{landing, row_lead, item_on}
+use Rattle.rulebook.specs.GraphTable.{landing, row_lead}
 
 -- the graph has this item
 abbrev pub Has : Graph → Item → Type 0

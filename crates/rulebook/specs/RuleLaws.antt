@@ -3,21 +3,21 @@
 use Rattle.std.specs.Prelude.{◌≡◌, ℕ, ◌<◌, ◌≤◌, Bool, true, false, cond, ◌⊎◌, Some, None, Option, ◌==◌, refl, IfSome}
 use Rattle.std.proofs.Common.{sym, ap, ◌∙◌, subst, inl, inr, ⊎_elim, arith}
 use Rattle.std.proofs.lemmas.Bool.{cond-true, cond-false, eqb-true, eq-eqb, ne_eqb, cases_eq}
-use Rattle.rulebook.specs.declared.entries.ItemRule.{ItemRule}
+use Rattle.graph.specs.declared.rows.ItemRule.{ItemRule}
 use Rattle.rulebook.specs.declared.entries.WatchEntry.{WatchEntry}
 use Rattle.rulebook.specs.Tables.{Laws, pair, max_items, max_rows}
 use Rattle.rulebook.specs.Watch.{is_item, watch_entry, entry_in, rule_table}
 
 pub cond-some : {A : Type 0} (b : Bool) (o : Option A) (e : A) → cond b o None ≡ Some e → (b ≡ true) × (o ≡ Some e)
 cond-some true o e h = (refl, h)
-cond-some false o e h = absurd (let z : ◌≡◌ {A = ℕ} 0 1 = cc in omega arith)
+cond-some false o e h = absurd (cc h)
 
 -- an item is a premise of a rule; the entry that it watches there
 abbrev pub Premise : ItemRule → ℕ → Type 0
 Premise ρ i = (ρ.from ≡ i) ⊎ (ρ.with ≡ Some i)
 
 is-item : (m : Option ℕ) (i : ℕ) → is_item m i ≡ true → m ≡ Some i
-is-item None i h = absurd (let z : ◌≡◌ {A = ℕ} 0 1 = cc in omega arith)
+is-item None i h = absurd (cc h)
 is-item (Some j) i h = ap Some (eqb-true j i h)
 
 -- which premise an entry is watched from
@@ -47,8 +47,8 @@ module _ (ρ : ItemRule) where
   pub from-watches : watch_entry ρ ρ.from ≡ Some (record { partner = ρ.with; conclusion = ρ.to })
   from-watches = cond-true (ρ.from == ρ.from) _ _ (eq-eqb ρ.from ρ.from refl)
 
-  pub mate-watches : (i : ℕ) → ρ.with ≡ Some i → watch_entry ρ i ≡ Some (pair ρ.from ρ.to)
-  mate-watches i h = ⊎_elim
+  pub with-watches : (i : ℕ) → ρ.with ≡ Some i → watch_entry ρ i ≡ Some (pair ρ.from ρ.to)
+  with-watches i h = ⊎_elim
       (λ (z : ρ.from ≡ i). cond-true (ρ.from == i) _ _ (eq-eqb ρ.from i z)
       ∙ ap (λ (o : Option ℕ). Some (record { partner = o; conclusion = ρ.to })) (h ∙ ap Some (sym z)))
       (λ (z : ρ.from ≡ i → ⊥). cond-false (ρ.from == i) _ _ (ne_eqb ρ.from i z) ∙ cond-true (is_item ρ.with i) _ _ (ap (λ o. is_item o i) h ∙ eq-eqb i i refl))
@@ -56,22 +56,7 @@ module _ (ρ : ItemRule) where
 
   -- a pair rule is watched from both premises
   pub watches-both : (a b c : ℕ) → Watches ρ a (pair b c) → Premise ρ b × (watch_entry ρ b ≡ Some (pair a c))
-  watches-both a b c w = ⊎_elim
-      (λ z.
-      let m : ρ.with ≡ Some b = sym z.1 in
-      let f : ρ.from ≡ a = z.0 in let d : c ≡ ρ.to = w.concludes in
-      (inr m, mate-watches b m ∙ both f d))
-      (λ z.
-      let m : ρ.with ≡ Some a = z.0 in
-      let f : b ≡ ρ.from = cc z.1 in let d : c ≡ ρ.to = w.concludes in
-      (inl (sym f), ap (watch_entry ρ) f ∙ from-watches ∙ lone m d))
-      w.by
-    where
-      both : ρ.from ≡ a → c ≡ ρ.to → ◌≡◌ {A = Option WatchEntry} (Some (pair ρ.from ρ.to)) (Some (pair a c))
-      both f d = cc
-
-      lone : ρ.with ≡ Some a → c ≡ ρ.to → ◌≡◌ {A = Option WatchEntry} (Some (record { partner = ρ.with; conclusion = ρ.to })) (Some (pair a c))
-      lone m d = cc
+  watches-both a b c w = grind (arith, with-watches, from-watches, w.by, w.concludes)
 
 pub record Known (items rows r : ℕ) (ρ : ItemRule) : Type 0 where
   pub row : r < rows
@@ -90,7 +75,7 @@ module _ (items rows : ℕ) (rule : ℕ → ℕ → Option ItemRule) where
   source i r e h = go (rule i r) refl h
     where
       go : (o : Option ItemRule) → rule i r ≡ o → entry_in o i ≡ Some e → Source i r e
-      go None q h = absurd (let z : ◌≡◌ {A = ℕ} 0 1 = cc in omega arith)
+      go None q h = absurd (cc h)
       go (Some ρ) q h = record { of = ρ; is_rule = q; watch = watches ρ i e h }
 
   premise : (i r : ℕ) (e : WatchEntry) (s : Source i r e) → Premise s.of i

@@ -1,6 +1,6 @@
 -- The watch entries of a rule's premises, and tables that rules make.
-use Rattle.std.specs.Prelude.{ℕ, Bool, true, false, cond, ◌&&◌, Some, None, Option, ◌==◌, nat_lt}
-use Rattle.rulebook.specs.declared.entries.ItemRule.{ItemRule}
+use Rattle.std.specs.Prelude.{if◌then◌else◌, ℕ, Bool, false, Some, None, Option, ◌==◌}
+use Rattle.graph.specs.declared.rows.ItemRule.{ItemRule}
 use Rattle.rulebook.specs.declared.entries.WatchEntry.{WatchEntry}
 use Rattle.rulebook.specs.Tables.{Table, pair}
 
@@ -12,22 +12,13 @@ is_item (Some j) i = j == i
 -- the partner of from is the with, and the other way round
 abbrev pub watch_entry : ItemRule → ℕ → Option WatchEntry
 watch_entry ρ i =
-    cond (ρ.from == i) (Some (record { partner = ρ.with; conclusion = ρ.to }))
-    (cond (is_item ρ.with i) (Some (pair ρ.from ρ.to)) None)
+    if ρ.from == i then Some (record { partner = ρ.with; conclusion = ρ.to })
+    else (if is_item ρ.with i then Some (pair ρ.from ρ.to) else None)
 
 -- a row without a rule gives no entry
 abbrev pub entry_in : Option ItemRule → ℕ → Option WatchEntry
 entry_in None i = None
 entry_in (Some ρ) i = watch_entry ρ i
-
--- an item, if there is one, is below a count
-abbrev pub is_below : ℕ → Option ℕ → Bool
-is_below n None = true
-is_below n (Some i) = nat_lt i n
-
--- the items of a row are below a count
-abbrev pub in_range : ℕ → ℕ → Option ℕ → ℕ → Bool
-in_range n from with to = nat_lt from n && (nat_lt to n && is_below n with)
 
 -- the table in which an item watches the rule of a row that is for it
 abbrev pub rule_table : ℕ → ℕ → (ℕ → ℕ → Option ItemRule) → Table

@@ -4,22 +4,20 @@ ghost use Rattle.rulebook.specs.Tables.{Table, Laws, seek};
 
 use crate::entries::RowEntry;
 
-// The most items of a rulebook.
-pub const MAX_ITEMS: u32 = 73_728;
-
-// A rulebook is a table of watch entries that keeps the laws of tables.
+/// A table of watch entries that keeps the laws of tables.
 pub trait Rulebook {
     ghost table: { Self → Table };
 
-    // How many items there are.
+    /// How many items there are: their numbers are below it.
     fn items(&self) -> u32
         ensures { result ≡ (table self.now).items };
 
-    // How many rows there are.
+    /// How many rows there are.
     fn rows(&self) -> u32
         ensures { result ≡ (table self.now).rows };
 
-    // The first watch entry of an item at or after a row: two numbers that only go together here.
+    /// The first watch entry of an item at or after a row, with its row: none if the item has no more, or there is no
+    /// such item.
     fn seek(&self, item: u32, row: u32) -> Option<RowEntry>
         ensures { result ≡ seek (table self.now) item row };
 

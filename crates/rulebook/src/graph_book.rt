@@ -12,48 +12,51 @@ ghost use Rattle.rulebook.specs.GraphLaws.{graph-laws};
 use crate::book::Rulebook;
 use crate::entries::RowEntry;
 use crate::rule_rows::first_entry;
-use crate::side_rows::{SideRows, local_count, row_count};
-use crate::words::Words;
-use lanes::{SIDES, Side};
+use crate::side_rows::SideRows;
+use graph::GraphWords;
+use lanes::SIDES;
 use policy::{Policy, PolicyTable};
 
-// The rules of any words, with the answers of a policy.
+/// The rules of graph words, with the answers of a policy. Its items are those of the target, then those of the host.
 #[derive(Drop)]
-pub struct GraphBook<W> {
-    words: W,
-    told: PolicyTable,
+pub struct GraphBook<'a> {
+    words: GraphWords<'a>,
+    answers: PolicyTable,
 }
 
-impl<W: Words> GraphBook<W> {
-    // The book of some words under a policy, which is asked once.
-    pub fn new<P: Policy>(words: W, policy: &P) -> GraphBook<W>
-        ensures table { graph_table (answers_of result.told) (W.Words.list result.words) ≡ graph_table (P.Policy.answers policy.now) (W.Words.list words) }
-        ensures rules { (file before : List ℕ) (g : Graph) → Opens file before g → W.Words.list words ≡ over (graph_words g) before → TableOf (P.Policy.answers policy.now) g (graph_table (answers_of result.told) (W.Words.list result.words)) }
+impl<'a> GraphBook<'a> {
+    /// The book of graph words under a policy, which is asked once. Words that are no graph words make a book without
+    /// items.
+    pub fn new<P: Policy>(words: &'a [u32], policy: &P) -> GraphBook<'a>
+        ensures table { ⟦<GraphBook<'a> as Rulebook>⟧.table result ≡ graph_table (P.Policy.answers policy.now) words.now }
+        ensures rules { (file before : List ℕ) (g : Graph) → Opens file before g → words.now ≡ over (graph_words g) before → TableOf (P.Policy.answers policy.now) g (⟦<GraphBook<'a> as Rulebook>⟧.table result) }
     {
         GraphBook {
-            words,
-            told: PolicyTable::of(policy),
+            words: GraphWords::of(words),
+            answers: PolicyTable::of(policy),
         }
     }
 }
 
-impl<W: Words> Rulebook for GraphBook<W> {
-    ghost table = { λ s. graph_table (answers_of s.told) (W.Words.list s.words) };
+impl Rulebook for GraphBook<'_> {
+    ghost table = { λ s. graph_table (answers_of s.answers) s.words.words.now };
 
-    ghost lawful = { λ b. graph-laws (answers_of b.told) (W.Words.list b.words) };
+    ghost lawful = { λ b. graph-laws (answers_of b.answers) b.words.words.now };
 
     fn items(&self) -> u32 {
-        SIDES * local_count(self.words.words())
+        SIDES * self.words.items()
     }
 
     fn rows(&self) -> u32 {
-        row_count(self.words.words())
+        self.words.rows()
     }
 
     fn seek(&self, item: u32, row: u32) -> Option<RowEntry> {
-        let words = self.words.words();
-        let number = item.checked_div(local_count(words))?;
-        let side = Side::try_from(number).ok()?;
-        first_entry(&SideRows::of(words, &self.told, side), item, row)
+        let rows = SideRows {
+            words: self.words,
+            answers: &self.answers,
+            side: self.words.side_of(item)?,
+        };
+        first_entry(&rows, item, row)
     }
 }

@@ -3,22 +3,21 @@ ghost use Rattle.std.specs.Prelude.{◌≡◌, ℕ, ◌*◌, ◌<◌, [], length
 ghost use Rattle.rulebook.specs.HouseTable.{house_width, count_of, house_rows, house_rule, house_table};
 ghost use Rattle.std.proofs.Common.{rules};
 
-use crate::book::{MAX_ITEMS, Rulebook};
-use crate::entries::{ItemRule, RowEntry};
+use crate::book::Rulebook;
+use crate::entries::RowEntry;
+use crate::limits::{MAX_HOUSE_ROWS, MAX_ITEMS};
 use crate::rule_rows::{RuleRows, first_entry};
-use crate::words::Words;
-use graph::with_of;
+use graph::{ItemRule, with_of};
 
-// The most rows that count, and the words of one.
-const MAX_HOUSE_ROWS: usize = 4_096;
-
+// The words of a row.
 const ROW_WIDTH: usize = 3;
 
-// Rules over `items` items: each three words, from, with, to, are one.
+/// Rules over `items` items, none if these are more than 73,728: each three words, from, with, to, are one, up to
+/// 4,096. A rule that names an item beyond the items is none.
 #[derive(Clone, Copy)]
-pub struct HouseBook<W> {
+pub struct HouseBook<'a> {
     pub items: u32,
-    pub words: W,
+    pub words: &'a [u32],
 }
 
 // The whole rows of the words, up to the limit.
@@ -30,7 +29,7 @@ fn rows(words: &[u32]) -> &[[u32; ROW_WIDTH]]
     &rows[..rows.len().min(MAX_HOUSE_ROWS)]
 }
 
-impl<W: Words> HouseBook<W> {
+impl HouseBook<'_> {
     // The item count, or 0 over the limit: such a book has no items.
     fn item_count(&self) -> u32
         ensures { result ≡ count_of self.now.items }
@@ -43,26 +42,25 @@ impl<W: Words> HouseBook<W> {
     }
 }
 
-impl<W: Words> RuleRows for HouseBook<W> {
-    ghost count = { λ s. house_rows (W.Words.list s.words) };
+impl RuleRows for HouseBook<'_> {
+    ghost count = { λ s. house_rows s.words.now };
 
-    ghost rule = { λ s r. house_rule (count_of s.items) (W.Words.list s.words) r };
+    ghost rule = { λ s r. house_rule (count_of s.items) s.words.now r };
 
     fn count(&self) -> u32 {
-        // at most 4,096, so `try_from` would only add an error that never comes
-        rows(self.words.words()).len() as u32
+        rows(self.words).len() as u32
     }
 
     fn rule(&self, row: u32) -> Option<ItemRule> {
-        let [from, with, to] = *rows(self.words.words()).get(row as usize)?;
+        let [from, with, to] = *rows(self.words).get(row as usize)?;
         let with = with_of(with);
         let rule = ItemRule { from, with, to };
         rule.is_below(self.item_count()).then_some(rule)
     }
 }
 
-impl<W: Words> Rulebook for HouseBook<W> {
-    ghost table = { λ s. house_table s.items (W.Words.list s.words) };
+impl Rulebook for HouseBook<'_> {
+    ghost table = { λ s. house_table s.items s.words.now };
 
     ghost lawful = { Prim.search rules };
 

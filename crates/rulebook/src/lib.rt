@@ -6,12 +6,12 @@ mod book;
 mod entries;
 mod graph_book;
 mod house_book;
+mod limits;
 mod rule_rows;
 mod side_rows;
-mod words;
 
-pub use book::{MAX_ITEMS, Rulebook};
-pub use entries::{ItemRule, RowEntry, WatchEntry};
+pub use book::Rulebook;
+pub use entries::{RowEntry, WatchEntry};
 pub use graph_book::GraphBook;
 pub use house_book::HouseBook;
-pub use words::Words;
+pub use limits::MAX_ITEMS;

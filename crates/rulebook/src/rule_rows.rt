@@ -1,10 +1,11 @@
 // Rows of rules, looked through one by one.
 ghost use Rattle.std.specs.Prelude.{◌≡◌, ℕ, ◌-◌, Option};
-ghost use Rattle.rulebook.specs.declared.entries.ItemRule.{ItemRule};
+ghost use Rattle.graph.specs.declared.rows.ItemRule.{ItemRule};
 ghost use Rattle.rulebook.specs.Tables.{first_of};
 ghost use Rattle.rulebook.specs.Watch.{entry_in};
 
-use crate::entries::{ItemRule, RowEntry};
+use crate::entries::{RowEntry, WatchEntry};
+use graph::ItemRule;
 
 // Some rows, each with a rule or none.
 pub trait RuleRows {
@@ -26,7 +27,7 @@ pub(crate) fn first_entry<R: RuleRows>(rows: &R, item: u32, row: u32) -> Option<
     ensures { result ≡ first_of (λ k. entry_in (R.RuleRows.rule rows.now k) item) row (R.RuleRows.count rows.now - row) }
 {
     (row..rows.count()).find_map(|row| {
-        let entry = rows.rule(row)?.watch(item)?;
+        let entry = WatchEntry::of(rows.rule(row)?, item)?;
         Some(RowEntry { row, entry })
     })
 }
