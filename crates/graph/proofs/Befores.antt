@@ -3,7 +3,7 @@ use Rattle.std.proofs.Common.{◌≡◌, ℕ, zero, suc, ◌+◌, ◌<◌, ◌�
 use Rattle.std.proofs.lemmas.Bool.{cases_lt}
 use Rattle.records.specs.Graphs.{Graph}
 use Rattle.graph.specs.Law.{dependencies_in, features_in, dependency_count, feature_count}
-use Rattle.graph.specs.Places.{declarations_of, proc_of, dependencies_of, features_of, dependencies_before, features_before}
+use Rattle.graph.specs.Places.{package_at, dependencies_of, features_of, dependencies_before, features_before}
 
 pub dependencies-next : (g : Graph) (p : ℕ) → p < length g → dependencies_before g (p + 1) ≡ dependencies_before g p + length (dependencies_of g p)
 dependencies-next [] p l = absurd (omega arith)
@@ -43,7 +43,7 @@ features-within (a ∷ g) zero = omega arith
 features-within (a ∷ g) (suc p) = omega (arith, features-within g p)
 
 -- a package beyond the last has nothing
-pub nothing-beyond : (g : Graph) (p : ℕ) → length g ≤ p → declarations_of g p ≡ []
+pub nothing-beyond : (g : Graph) (p : ℕ) → length g ≤ p → (package_at g p).declarations ≡ []
 nothing-beyond [] p l = refl
 nothing-beyond (a ∷ g) zero l = absurd (omega arith)
 nothing-beyond (a ∷ g) (suc p) l = nothing-beyond g p (omega arith)
@@ -62,7 +62,7 @@ module _ (g : Graph) (few : length g ≤ 4096) (p n : ℕ) (next : n ≡ min (p 
       (λ (l : length g ≤ p). omega (arith, features-all g n (omega arith), features-all g p l, ap (λ ps. length (features_in ps)) (nothing-beyond g p l)))
       (cases_lt p (length g))
 
-pub proc-beyond : (g : Graph) (p : ℕ) → length g ≤ p → proc_of g p ≡ false
+pub proc-beyond : (g : Graph) (p : ℕ) → length g ≤ p → (package_at g p).proc ≡ false
 proc-beyond [] p l = refl
 proc-beyond (a ∷ g) zero l = absurd (omega arith)
 proc-beyond (a ∷ g) (suc p) l = proc-beyond g p (omega arith)

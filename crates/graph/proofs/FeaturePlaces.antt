@@ -13,7 +13,7 @@ use Rattle.graph.specs.Buckets.{key_of, blank, entry_at, keys_of}
 use Rattle.graph.specs.Law.{features_in, dependency_count, Differ, LawfulPackage}
 use Rattle.graph.specs.Gathered.{keys_in, keys_from}
 use Rattle.graph.specs.Places.{feat, features_of, features_before, number}
-use Rattle.graph.specs.Rules.{later, place_of}
+use Rattle.graph.specs.Rules.{place_of}
 use Rattle.graph.proofs.Links.{Finds, keys_length, keys-at}
 
 abbrev no_feature : Feature
@@ -103,11 +103,11 @@ place-some (f ∷ fs) n (suc j) l e d =
     absurd (All-get_or (λ h. h.name ≡ f.name → ⊥) fs j no_feature (omega arith) d.0 (b ∙ sym a)))
     (λ (t : bytes_eq f.name n ≡ false). t)
     (cases_Bool (bytes_eq f.name n)) in
-    cond-false _ _ _ other ∙ ap later (place-some fs n j (omega arith) e d.1)
+    cond-false _ _ _ other ∙ ap (option_map suc) (place-some fs n j (omega arith) e d.1)
 
 pub place_none : (fs : List Feature) (n : List ℕ) → ((j : ℕ) → j < length fs → bytes_eq (get_or fs j no_feature).name n ≡ false) → place_of fs n ≡ None
 place_none [] n h = refl
-place_none (f ∷ fs) n h = cond-false _ _ _ (h 0 (omega arith)) ∙ ap later (place_none fs n (λ j l. h (suc j) (omega arith)))
+place_none (f ∷ fs) n h = cond-false _ _ _ (h 0 (omega arith)) ∙ ap (option_map suc) (place_none fs n (λ j l. h (suc j) (omega arith)))
 
 pub features-differ : (g : Graph) (q : ℕ) → AllByRecursion LawfulPackage g → Differ (features_of g q)
 features-differ [] q l = tt

@@ -1,5 +1,5 @@
 -- The second reading finds no fault exactly if every reference is resolved.
-use Rattle.std.proofs.Common.{◌≡◌, ℕ, zero, suc, ◌+◌, ◌-◌, ◌<◌, ◌≤◌, Bool, true, false, cond, ltb, List, [], ◌∷◌, ◌++◌, length, get_or, is_some, Some, None, Ok, Err, Option, Result, sym, refl, ap, ◌∙◌, subst, inl, inr, ⊎_elim, arith}
+use Rattle.std.proofs.Common.{◌≡◌, ℕ, zero, suc, ◌+◌, ◌-◌, ◌<◌, ◌≤◌, Bool, true, false, cond, ltb, List, [], ◌∷◌, ◌++◌, length, get_or, is_some, option_map, Some, None, Ok, Err, Option, Result, sym, refl, ap, ◌∙◌, subst, inl, inr, ⊎_elim, arith}
 use Rattle.std.proofs.ByRecursion.{All-get_or, All-from_get_or, All-append, All-weaker}
 use Rattle.std.proofs.lemmas.Slice.Eq.{bytes_eq-Decides}
 use Rattle.std.proofs.lemmas.List.{length-append, get_or_append_left, get_or-append-add}
@@ -14,8 +14,8 @@ use Rattle.records.specs.Graphs.{Dependency, Feature, Declaration, dependency, f
 use Rattle.records.specs.Encoding.{declaration_bytes, header_bytes}
 use Rattle.graph.specs.declared.faults.InRecord.{InRecord}
 use Rattle.graph.specs.Law.{dependencies_in, features_in, dependency_count, feature_count}
-use Rattle.graph.specs.Places.{declarations_of, dependencies_of, features_of, no_dependency, no_feature}
-use Rattle.graph.specs.Rules.{later, place_of}
+use Rattle.graph.specs.Places.{package_at, dependencies_of, features_of, no_dependency, no_feature}
+use Rattle.graph.specs.Rules.{place_of}
 use Rattle.graph.specs.Second.{DeclarationPlace, places_in_package, places_from, declaration_places, package_record, declarations_length, has_feature, has_dependency, end_has, ends_have, is_known, all_known, names_known, end_known, or_after, check_all, ends, references, then_check, second_reading}
 use Rattle.graph.specs.Directory.{no_place}
 use Rattle.graph.specs.Limits.{end_place, dependency_name_place, feature_name_place}
@@ -119,7 +119,7 @@ module _ (Q : ℕ → Declaration → Type 0) where
   held-parts [] number start owner h = tt
   held-parts (x ∷ ps) number start owner h = (h.0, held-parts ps (number + 1) (start + length (declaration_bytes x)) owner h.1)
 
-  from-held : (g : Graph) (number start owner : ℕ) → AllByRecursion Held (places_from number start owner g) → (p : ℕ) → AllByRecursion (Q (owner + p)) (declarations_of g p)
+  from-held : (g : Graph) (number start owner : ℕ) → AllByRecursion Held (places_from number start owner g) → (p : ℕ) → AllByRecursion (Q (owner + p)) (package_at g p).declarations
   from-held [] number start owner h p = tt
   from-held (a ∷ g) number start owner h zero =
       let at : ℕ = start + length (package_record a) in
@@ -128,9 +128,9 @@ module _ (Q : ℕ → Declaration → Type 0) where
   from-held (a ∷ g) number start owner h (suc p) =
       let at : ℕ = start + length (package_record a) in
       let z : (owner + 1) + p ≡ owner + suc p = omega arith in
-      subst (λ o. AllByRecursion (Q o) (declarations_of g p)) z (from-held g ((number + 1) + length a.declarations) (at + declarations_length a.declarations) (owner + 1) (all_split Held (places_in_package (number + 1) at owner a.declarations) _ h).1 p)
+      subst (λ o. AllByRecursion (Q o) (package_at g p).declarations) z (from-held g ((number + 1) + length a.declarations) (at + declarations_length a.declarations) (owner + 1) (all_split Held (places_in_package (number + 1) at owner a.declarations) _ h).1 p)
 
-  held-from : (g : Graph) (number start owner : ℕ) → ((p : ℕ) → AllByRecursion (Q (owner + p)) (declarations_of g p)) → AllByRecursion Held (places_from number start owner g)
+  held-from : (g : Graph) (number start owner : ℕ) → ((p : ℕ) → AllByRecursion (Q (owner + p)) (package_at g p).declarations) → AllByRecursion Held (places_from number start owner g)
   held-from [] number start owner h = tt
   held-from (a ∷ g) number start owner h =
       let at : ℕ = start + length (package_record a) in
@@ -139,23 +139,23 @@ module _ (Q : ℕ → Declaration → Type 0) where
       (held-parts a.declarations (number + 1) at owner (subst (λ o. AllByRecursion (Q o) a.declarations) z (h 0)))
       (held-from g ((number + 1) + length a.declarations) (at + declarations_length a.declarations) (owner + 1) (λ p.
       let s : owner + suc p ≡ (owner + 1) + p = omega arith in
-      subst (λ o. AllByRecursion (Q o) (declarations_of g p)) s (h (suc p))))
+      subst (λ o. AllByRecursion (Q o) (package_at g p).declarations) s (h (suc p))))
 
   -- of dependencies and of features, by place
   pub held-dependency : (g : Graph) → AllByRecursion Held (declaration_places g) → (p k : ℕ) (d : Dependency) → DependencyAt g p k d → Q p (dependency d)
   held-dependency g h p k d at =
       let z : 0 + p ≡ p = omega arith in
-      subst (λ x. Q p (dependency x)) at.1 (All-get_or (λ x. Q p (dependency x)) (dependencies_of g p) k no_dependency at.0 (dependencies-all (Q p) (declarations_of g p) (subst (λ o. AllByRecursion (Q o) (declarations_of g p)) z (from-held g 1 (length header_bytes) 0 h p))))
+      subst (λ x. Q p (dependency x)) at.1 (All-get_or (λ x. Q p (dependency x)) (dependencies_of g p) k no_dependency at.0 (dependencies-all (Q p) (package_at g p).declarations (subst (λ o. AllByRecursion (Q o) (package_at g p).declarations) z (from-held g 1 (length header_bytes) 0 h p))))
 
   pub held-feature : (g : Graph) → AllByRecursion Held (declaration_places g) → (p k : ℕ) (f : Feature) → FeatureAt g p k f → Q p (feature f)
   held-feature g h p k f at =
       let z : 0 + p ≡ p = omega arith in
-      subst (λ x. Q p (feature x)) at.1 (All-get_or (λ x. Q p (feature x)) (features_of g p) k no_feature at.0 (features-all (Q p) (declarations_of g p) (subst (λ o. AllByRecursion (Q o) (declarations_of g p)) z (from-held g 1 (length header_bytes) 0 h p))))
+      subst (λ x. Q p (feature x)) at.1 (All-get_or (λ x. Q p (feature x)) (features_of g p) k no_feature at.0 (features-all (Q p) (package_at g p).declarations (subst (λ o. AllByRecursion (Q o) (package_at g p).declarations) z (from-held g 1 (length header_bytes) 0 h p))))
 
   pub all_held : (g : Graph) → ((p k : ℕ) (d : Dependency) → DependencyAt g p k d → Q p (dependency d)) → ((p k : ℕ) (f : Feature) → FeatureAt g p k f → Q p (feature f)) → AllByRecursion Held (declaration_places g)
   all_held g ds fs = held-from g 1 (length header_bytes) 0 (λ p.
       let z : p ≡ 0 + p = omega arith in
-      subst (λ o. AllByRecursion (Q o) (declarations_of g p)) z (parts_all (Q p) (declarations_of g p)
+      subst (λ o. AllByRecursion (Q o) (package_at g p).declarations) z (parts_all (Q p) (package_at g p).declarations
       (All-from_get_or (λ x. Q p (dependency x)) (dependencies_of g p) no_dependency (λ k l. ds p k (get_or (dependencies_of g p) k no_dependency) (l, refl)))
       (All-from_get_or (λ x. Q p (feature x)) (features_of g p) no_feature (λ k l. fs p k (get_or (features_of g p) k no_feature) (l, refl)))))
 
@@ -214,7 +214,7 @@ pub place-name : (fs : List Feature) (n : List ℕ) (j : ℕ) → place_of fs n 
 place-name [] n j e = absurd (let z : ◌≡◌ {A = ℕ} 0 1 = cc in omega arith)
 place-name (f ∷ fs) n j e = go (bytes_eq f.name n) refl (place_of fs n) refl j e (place-name fs n)
   where
-    go : (b : Bool) → bytes_eq f.name n ≡ b → (o : Option ℕ) → place_of fs n ≡ o → (i : ℕ) → cond b (Some 0) (later o) ≡ Some i → ((k : ℕ) → place_of fs n ≡ Some k → (k < length fs) × ((get_or fs k no_feature).name ≡ n)) → (i < length (f ∷ fs)) × ((get_or (f ∷ fs) i no_feature).name ≡ n)
+    go : (b : Bool) → bytes_eq f.name n ≡ b → (o : Option ℕ) → place_of fs n ≡ o → (i : ℕ) → cond b (Some 0) (option_map suc o) ≡ Some i → ((k : ℕ) → place_of fs n ≡ Some k → (k < length fs) × ((get_or fs k no_feature).name ≡ n)) → (i < length (f ∷ fs)) × ((get_or (f ∷ fs) i no_feature).name ≡ n)
     go true q o r i h more =
         let z : 0 ≡ i = cc in
         subst (λ k. (k < length (f ∷ fs)) × ((get_or (f ∷ fs) k no_feature).name ≡ n)) z (omega arith, (bytes_eq-Decides f.name n).0 q)
@@ -225,7 +225,7 @@ place-name (f ∷ fs) n j e = go (bytes_eq f.name n) refl (place_of fs n) refl j
         subst (λ k. (k < length (f ∷ fs)) × ((get_or (f ∷ fs) k no_feature).name ≡ n)) z (omega (arith, m.0), m.1)
 
 -- a name that a feature has, has a place
-later-some : (o : Option ℕ) → is_some o ≡ true → is_some (later o) ≡ true
+later-some : (o : Option ℕ) → is_some o ≡ true → is_some (option_map suc o) ≡ true
 later-some None h = h
 later-some (Some k) h = refl
 
@@ -234,7 +234,7 @@ name-placed [] n j l e = absurd (omega arith)
 name-placed (f ∷ fs) n zero l e = ap is_some (cond-true _ _ _ ((bytes_eq-Decides f.name n).1 e))
 name-placed (f ∷ fs) n (suc j) l e = go (bytes_eq f.name n) (name-placed fs n j (omega arith) e)
   where
-    go : (b : Bool) → is_some (place_of fs n) ≡ true → is_some (cond b (Some 0) (later (place_of fs n))) ≡ true
+    go : (b : Bool) → is_some (place_of fs n) ≡ true → is_some (cond b (Some 0) (option_map suc (place_of fs n))) ≡ true
     go true h = refl
     go false h = later-some (place_of fs n) h
 

@@ -6,7 +6,7 @@ use Rattle.std.specs.Str.{bytes_eq}
 use Rattle.text.specs.Forms.{Form, plain, switch, strong, weak}
 use Rattle.records.specs.Graphs.{Dependency, Feature, Declaration, Graph}
 use Rattle.graph.specs.Law.{dependencies_in, features_in, Lawful}
-use Rattle.graph.specs.Places.{unit, dep, feat, declarations_of, dependencies_of, features_of, no_dependency, no_feature}
+use Rattle.graph.specs.Places.{unit, dep, feat, package_at, dependencies_of, features_of, no_dependency, no_feature}
 use Rattle.graph.specs.Rules.{Rule, lane_of, place_of, when_some, when, each, unless, ask_rule, dependency_rules, switch_rule, weak_rule, if_named, value_rules, feature_rules, package_rules, rules}
 use Rattle.graph.specs.OpeningLaw.{In, DependencyAt, FeatureAt, NamedAt, IsRuleOf, needs, builds, defaults, asks, plainly, switches, joins, RulesLaw}
 use Rattle.graph.proofs.FeaturePlaces.{place-some, features-differ}
@@ -124,7 +124,7 @@ named-place g law p n j h =
 abbrev of_parts : Graph → ℕ → List Declaration → List Rule
 of_parts g p ps = each (dependency_rules g p) 0 (dependencies_in ps) ++ each (feature_rules g p) 0 (features_in ps)
 
-packages-from : (g : Graph) (ρ : Rule) (k : ℕ) (h : Graph) → In ρ (each (package_rules g) k h) → (p : ℕ) × In ρ (of_parts g (k + p) (declarations_of h p))
+packages-from : (g : Graph) (ρ : Rule) (k : ℕ) (h : Graph) → In ρ (each (package_rules g) k h) → (p : ℕ) × In ρ (of_parts g (k + p) (package_at h p).declarations)
 packages-from g ρ k [] m = absurd m
 packages-from g ρ k (a ∷ h) m =
     ⊎_elim
@@ -132,27 +132,27 @@ packages-from g ρ k (a ∷ h) m =
     (λ (l : In ρ (each (package_rules g) (k + 1) h)).
     let r = packages-from g ρ (k + 1) h l in
     let z : (k + 1) + r.0 ≡ k + suc r.0 = omega arith in
-    (suc r.0, subst (λ i. In ρ (of_parts g i (declarations_of h r.0))) z r.1))
+    (suc r.0, subst (λ i. In ρ (of_parts g i (package_at h r.0).declarations)) z r.1))
     (in_either ρ (package_rules g k a) (each (package_rules g) (k + 1) h) m)
 
-in-packages : (g : Graph) (ρ : Rule) (k : ℕ) (h : Graph) (p : ℕ) → In ρ (of_parts g (k + p) (declarations_of h p)) → In ρ (each (package_rules g) k h)
+in-packages : (g : Graph) (ρ : Rule) (k : ℕ) (h : Graph) (p : ℕ) → In ρ (of_parts g (k + p) (package_at h p).declarations) → In ρ (each (package_rules g) k h)
 in-packages g ρ k [] p m = absurd m
 in-packages g ρ k (a ∷ h) zero m = let z : k + 0 ≡ k = omega arith in in_left ρ (package_rules g k a) (each (package_rules g) (k + 1) h) (subst (λ i. In ρ (of_parts g i a.declarations)) z m)
 in-packages g ρ k (a ∷ h) (suc p) m =
     let z : k + suc p ≡ (k + 1) + p = omega arith in
-    in_right ρ (package_rules g k a) (each (package_rules g) (k + 1) h) (in-packages g ρ (k + 1) h p (subst (λ i. In ρ (of_parts g i (declarations_of h p))) z m))
+    in_right ρ (package_rules g k a) (each (package_rules g) (k + 1) h) (in-packages g ρ (k + 1) h p (subst (λ i. In ρ (of_parts g i (package_at h p).declarations)) z m))
 
 -- the rules of a dependency, and of a feature, of package p are rules
 in-dependency : (g : Graph) (ρ : Rule) (p k : ℕ) (d : Dependency) → DependencyAt g p k d → In ρ (dependency_rules g p k d) → In ρ (rules g)
 in-dependency g ρ p k d at m =
     let z : p ≡ 0 + p = omega arith in
-    in-packages g ρ 0 g p (subst (λ i. In ρ (of_parts g i (declarations_of g p))) z
+    in-packages g ρ 0 g p (subst (λ i. In ρ (of_parts g i (package_at g p).declarations)) z
     (in_left ρ (each (dependency_rules g p) 0 (dependencies_of g p)) (each (feature_rules g p) 0 (features_of g p)) (in-first (dependency_rules g p) ρ no_dependency (dependencies_of g p) k d at m)))
 
 in-value : (g : Graph) (ρ : Rule) (p j : ℕ) (f : Feature) (v : Form (List ℕ)) → FeatureAt g p j f → In v f.values → In ρ (value_rules g p j v) → In ρ (rules g)
 in-value g ρ p j f v at is m =
     let z : p ≡ 0 + p = omega arith in
-    in-packages g ρ 0 g p (subst (λ i. In ρ (of_parts g i (declarations_of g p))) z
+    in-packages g ρ 0 g p (subst (λ i. In ρ (of_parts g i (package_at g p).declarations)) z
     (in_right ρ (each (dependency_rules g p) 0 (dependencies_of g p)) (each (feature_rules g p) 0 (features_of g p))
     (in-first (feature_rules g p) ρ no_feature (features_of g p) j f at (in-joined (value_rules g p j) ρ f.values v is m))))
 
@@ -244,7 +244,7 @@ rule-stands g ρ m =
     let r = packages-from g ρ 0 g m in
     let p : ℕ = r.0 in
     let z : 0 + p ≡ p = omega arith in
-    let l : In ρ (of_parts g p (declarations_of g p)) = subst (λ i. In ρ (of_parts g i (declarations_of g p))) z r.1 in
+    let l : In ρ (of_parts g p (package_at g p).declarations) = subst (λ i. In ρ (of_parts g i (package_at g p).declarations)) z r.1 in
     ⊎_elim
     (λ (h : In ρ (each (dependency_rules g p) 0 (dependencies_of g p))).
     let c = first-from (dependency_rules g p) ρ no_dependency (dependencies_of g p) h in

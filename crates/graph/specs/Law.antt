@@ -1,5 +1,5 @@
 -- Lawful graphs, and which files say one.
-use Rattle.std.specs.Prelude.{◌≡◌, ℕ, ◌+◌, ◌≤◌, List, [], ◌∷◌, ◌++◌, length, ◌≢◌}
+use Rattle.std.specs.Prelude.{◌≡◌, ℕ, zero, suc, ◌+◌, ◌≤◌, List, [], ◌∷◌, ◌++◌, length, ◌≢◌}
 use Rattle.std.specs.List.{AllByRecursion}
 use Rattle.text.specs.Names.{Name}
 use Rattle.records.specs.Graphs.{Dependency, Feature, Declaration, dependency, feature, Package, Graph}
@@ -17,14 +17,21 @@ features_in [] = []
 features_in (dependency d ∷ ps) = features_in ps
 features_in (feature f ∷ ps) = f ∷ features_in ps
 
--- how many of them a graph has
+-- how many of one kind a graph has, and how many the packages before p have
+abbrev pub count_in : {A : Type 0} → (List Declaration → List A) → Graph → ℕ
+count_in chosen [] = 0
+count_in chosen (a ∷ g) = length (chosen a.declarations) + count_in chosen g
+
+abbrev pub count_before : {A : Type 0} → (List Declaration → List A) → Graph → ℕ → ℕ
+count_before chosen [] p = 0
+count_before chosen (a ∷ g) zero = 0
+count_before chosen (a ∷ g) (suc p) = length (chosen a.declarations) + count_before chosen g p
+
 abbrev pub dependency_count : Graph → ℕ
-dependency_count [] = 0
-dependency_count (p ∷ g) = length (dependencies_in p.declarations) + dependency_count g
+dependency_count = count_in dependencies_in
 
 abbrev pub feature_count : Graph → ℕ
-feature_count [] = 0
-feature_count (p ∷ g) = length (features_in p.declarations) + feature_count g
+feature_count = count_in features_in
 
 abbrev pub LawfulDeclaration : Declaration → Type 0
 LawfulDeclaration (dependency d) = LawfulDependency d

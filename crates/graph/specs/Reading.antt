@@ -1,5 +1,5 @@
 -- The first reading of a graph file: records in order, into a graph.
-use Rattle.std.specs.Prelude.{ℕ, zero, suc, ◌+◌, ◌-◌, Bool, true, false, cond, List, [], ◌∷◌, ◌++◌, length, Some, None, Ok, Err, Option, Result, ◌==◌, nat_le, nat_lt}
+use Rattle.std.specs.Prelude.{ℕ, zero, suc, ◌+◌, ◌-◌, Bool, true, false, List, [], ◌∷◌, ◌++◌, length, Some, None, Ok, Err, Option, Result, ◌==◌, nat_le, nat_lt, if◌then◌else◌}
 use Rattle.text.specs.Forms.{Piece}
 use Rattle.records.specs.declared.faults.RecordFault.{RecordFault}
 use Rattle.records.specs.declared.faults.RecordFault.TheVariants.{Cut, Stray, Many, Twice}
@@ -38,16 +38,17 @@ begin = record { number = 0; start = 0; packages = 0; dependencies = 0; keys = [
 -- which kind may stand here: a header first and only there, dependencies and features only after a package
 abbrev pub kind_here : ℕ → ℕ → ℕ → Option Kind
 kind_here number packages k =
-    cond (number == 0) (cond (k == kind_number kind.Header) (Some kind.Header) None)
-    (cond (k == kind_number kind.Package) (Some kind.Package)
-    (cond (k == kind_number kind.End) (Some kind.End)
-    (cond (packages == 0) None
-    (cond (k == kind_number kind.Dependency) (Some kind.Dependency)
-    (cond (k == kind_number kind.Feature) (Some kind.Feature) None)))))
+    if number == 0 then (if k == kind_number kind.Header then Some kind.Header else None)
+    else (if k == kind_number kind.Package then Some kind.Package
+    else (if k == kind_number kind.End then Some kind.End
+    else (if packages == 0 then None
+    else (if k == kind_number kind.Dependency then Some kind.Dependency
+    else (if k == kind_number kind.Feature then Some kind.Feature
+    else None)))))
 
 -- a record's answer, or Many if there are as many of its kind as may be
 abbrev pub below : {B : Type 0} → ℕ → ℕ → Result B RecordFault → Result B RecordFault
-below n limit r = cond (nat_le limit n) (Err Many) r
+below n limit r = if nat_le limit n then Err Many else r
 
 abbrev pub as_content : {A : Type 0} → (A → Content) → Result (A × View) RecordFault → Result Content RecordFault
 as_content f (Ok p) = Ok (f p.0)
@@ -55,7 +56,7 @@ as_content f (Err e) = Err e
 
 -- a feature's name is new in its package
 abbrev pub fresh : List Key → ℕ → Piece → Field (Unit {0})
-fresh keys owner name v = cond (has_key owner name.text keys) (Err (Twice name.place)) (Ok (tt, v))
+fresh keys owner name v = if has_key owner name.text keys then Err (Twice name.place) else Ok (tt, v)
 
 abbrev pub feature_field : List Key → ℕ → Field Feature
 feature_field keys owner =
@@ -174,7 +175,7 @@ graph_in (Err e) = Err e
 
 -- the graph of a file, and how many of its bytes are read
 abbrev pub first_reading : List ℕ → Result (Graph × ℕ) FileFault
-first_reading file = cond (nat_lt max_bytes (length file)) (Err Size) (graph_in (scan begin file))
+first_reading file = if nat_lt max_bytes (length file) then Err Size else graph_in (scan begin file)
 
 -- the graph of a file; an empty one if it has none
 abbrev pub graph_or : Result (Graph × ℕ) FileFault → Graph

@@ -1,5 +1,6 @@
 -- The second reading: everything that is named is there.
-use Rattle.std.specs.Prelude.{ℕ, ◌+◌, Bool, true, false, cond, ◌&&◌, ◌||◌, List, [], ◌∷◌, ◌++◌, length, is_some, Ok, Err, Result, nat_lt}
+use Rattle.std.specs.Prelude.{ℕ, ◌+◌, Bool, true, ◌&&◌, List, [], ◌∷◌, ◌++◌, length, is_some, Ok, Err, Result, nat_lt, if◌then◌else◌}
+use Rattle.std.specs.List.{list_any, list_all}
 use Rattle.std.specs.Str.{bytes_eq}
 use Rattle.text.specs.Forms.{Form, plain, switch, strong, weak, spell}
 use Rattle.records.specs.declared.faults.RecordFault.{RecordFault}
@@ -45,15 +46,13 @@ abbrev pub has_feature : List Feature → List ℕ → Bool
 has_feature fs n = is_some (place_of fs n)
 
 abbrev pub has_dependency : List Dependency → List ℕ → Bool
-has_dependency [] n = false
-has_dependency (d ∷ ds) n = bytes_eq d.name n || has_dependency ds n
+has_dependency ds n = list_any (λ d. bytes_eq d.name n) ds
 
 abbrev pub end_has : Graph → List ℕ → List ℕ → Dependency → Bool
-end_has g n x d = cond (bytes_eq d.name n) (has_feature (features_of g d.end) x) true
+end_has g n x d = if bytes_eq d.name n then has_feature (features_of g d.end) x else true
 
 abbrev pub ends_have : Graph → List Dependency → List ℕ → List ℕ → Bool
-ends_have g [] n x = true
-ends_have g (d ∷ ds) n x = end_has g n x d && ends_have g ds n x
+ends_have g ds n x = list_all (end_has g n x) ds
 
 -- what a feature string of package p names is there
 abbrev pub is_known : Graph → ℕ → Form (List ℕ) → Bool
@@ -65,7 +64,7 @@ is_known g p (weak n x) = has_dependency (dependencies_of g p) n && ends_have g 
 -- all of some strings, which begin at a place of their record, are known; each stands behind its length byte
 abbrev pub all_known : {A : Type 0} → (A → Bool) → (A → ℕ) → ℕ → List A → Result (Unit {0}) RecordFault
 all_known test size at [] = Ok tt
-all_known test size at (x ∷ xs) = cond (test x) (all_known test size ((at + 1) + size x) xs) (Err (Unknown (at + 1)))
+all_known test size at (x ∷ xs) = if test x then all_known test size ((at + 1) + size x) xs else Err (Unknown (at + 1))
 
 -- what a dependency or feature of package p names is there; its asks or values begin after its name and the count
 abbrev pub names_known : Graph → ℕ → Declaration → Result (Unit {0}) RecordFault
@@ -74,7 +73,7 @@ names_known g p (feature f) = all_known (is_known g p) (λ v. length (spell v)) 
 
 -- the end of a dependency is a package
 abbrev pub end_known : Graph → Declaration → Result (Unit {0}) RecordFault
-end_known g (dependency d) = cond (nat_lt d.end (length g)) (Ok tt) (Err (Unknown end_place))
+end_known g (dependency d) = if nat_lt d.end (length g) then Ok tt else Err (Unknown end_place)
 end_known g (feature f) = Ok tt
 
 -- a record's fault, with the record's number and start, comes before those of the records after it
