@@ -1,5 +1,5 @@
 -- The second reading finds no fault exactly if every reference is resolved.
-use Rattle.std.proofs.Common.{◌≡◌, ℕ, zero, suc, ◌+◌, ◌-◌, ◌<◌, ◌≤◌, Bool, true, false, cond, ltb, List, [], ◌∷◌, ◌++◌, length, get_or, is_some, option_map, Some, None, Ok, Err, Option, Result, sym, refl, ap, ◌∙◌, subst, inl, inr, ⊎_elim, arith}
+use Rattle.std.proofs.Common.{◌≡◌, ℕ, zero, suc, ◌+◌, ◌-◌, ◌<◌, ◌≤◌, Bool, true, false, cond, ltb, List, [], ◌∷◌, ◌++◌, length, get_or, is_some, Some, None, Ok, Err, Option, Result, sym, refl, ap, ◌∙◌, subst, inl, inr, ⊎_elim, arith}
 use Rattle.std.proofs.ByRecursion.{All-get_or, All-from_get_or, All-append, All-weaker}
 use Rattle.std.proofs.lemmas.Slice.Eq.{bytes_eq-Decides}
 use Rattle.std.proofs.lemmas.List.{length-append, get_or_append_left, get_or-append-add}
@@ -19,6 +19,7 @@ use Rattle.graph.specs.Rules.{place_of}
 use Rattle.graph.specs.Second.{DeclarationPlace, places_in_package, places_from, declaration_places, package_record, declarations_length, has_feature, has_dependency, end_has, ends_have, is_known, all_known, names_known, end_known, or_after, check_all, ends, references, then_check, second_reading}
 use Rattle.graph.specs.Directory.{no_place}
 use Rattle.graph.specs.Limits.{end_place, dependency_name_place, feature_name_place}
+use Rattle.graph.proofs.FeaturePlaces.{place-name, name-placed}
 use Rattle.graph.specs.OpeningLaw.{In, DependencyAt, FeatureAt, HasFeature, HasDependency, EndsHave, Resolves, Resolved, Refers}
 
 -- how many records there are
@@ -208,35 +209,6 @@ module _ {A : Type 0} (test : A → Bool) (size : A → ℕ) where
   each-known : (at : ℕ) (xs : List A) → AllByRecursion (λ x. test x ≡ true) xs → all_known test size at xs ≡ Ok tt
   each-known at [] h = refl
   each-known at (x ∷ xs) h = cond-true _ _ _ h.0 ∙ each-known ((at + 1) + size x) xs h.1
-
--- a place that a name has among features is that of a feature of this name
-pub place-name : (fs : List Feature) (n : List ℕ) (j : ℕ) → place_of fs n ≡ Some j → (j < length fs) × ((get_or fs j no_feature).name ≡ n)
-place-name [] n j e = absurd (let z : ◌≡◌ {A = ℕ} 0 1 = cc in omega arith)
-place-name (f ∷ fs) n j e = go (bytes_eq f.name n) refl (place_of fs n) refl j e (place-name fs n)
-  where
-    go : (b : Bool) → bytes_eq f.name n ≡ b → (o : Option ℕ) → place_of fs n ≡ o → (i : ℕ) → cond b (Some 0) (option_map suc o) ≡ Some i → ((k : ℕ) → place_of fs n ≡ Some k → (k < length fs) × ((get_or fs k no_feature).name ≡ n)) → (i < length (f ∷ fs)) × ((get_or (f ∷ fs) i no_feature).name ≡ n)
-    go true q o r i h more =
-        let z : 0 ≡ i = cc in
-        subst (λ k. (k < length (f ∷ fs)) × ((get_or (f ∷ fs) k no_feature).name ≡ n)) z (omega arith, (bytes_eq-Decides f.name n).0 q)
-    go false q None r i h more = absurd (let z : ◌≡◌ {A = ℕ} 0 1 = cc in omega arith)
-    go false q (Some k) r i h more =
-        let z : suc k ≡ i = cc in
-        let m = more k r in
-        subst (λ k. (k < length (f ∷ fs)) × ((get_or (f ∷ fs) k no_feature).name ≡ n)) z (omega (arith, m.0), m.1)
-
--- a name that a feature has, has a place
-later-some : (o : Option ℕ) → is_some o ≡ true → is_some (option_map suc o) ≡ true
-later-some None h = h
-later-some (Some k) h = refl
-
-name-placed : (fs : List Feature) (n : List ℕ) (j : ℕ) → j < length fs → (get_or fs j no_feature).name ≡ n → is_some (place_of fs n) ≡ true
-name-placed [] n j l e = absurd (omega arith)
-name-placed (f ∷ fs) n zero l e = ap is_some (cond-true _ _ _ ((bytes_eq-Decides f.name n).1 e))
-name-placed (f ∷ fs) n (suc j) l e = go (bytes_eq f.name n) (name-placed fs n j (omega arith) e)
-  where
-    go : (b : Bool) → is_some (place_of fs n) ≡ true → is_some (cond b (Some 0) (option_map suc (place_of fs n))) ≡ true
-    go true h = refl
-    go false h = later-some (place_of fs n) h
 
 some_is : (o : Option ℕ) → is_some o ≡ true → (j : ℕ) × (o ≡ Some j)
 some_is None e = absurd (let z : ◌≡◌ {A = ℕ} 0 1 = cc in omega arith)

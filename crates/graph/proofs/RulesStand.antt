@@ -9,8 +9,7 @@ use Rattle.graph.specs.Law.{dependencies_in, features_in, Lawful}
 use Rattle.graph.specs.Places.{unit, dep, feat, package_at, dependencies_of, features_of, no_dependency, no_feature}
 use Rattle.graph.specs.Rules.{Rule, lane_of, place_of, when_some, when, each, unless, ask_rule, dependency_rules, switch_rule, weak_rule, if_named, value_rules, feature_rules, package_rules, rules}
 use Rattle.graph.specs.OpeningLaw.{In, DependencyAt, FeatureAt, NamedAt, IsRuleOf, needs, builds, defaults, asks, plainly, switches, joins, RulesLaw}
-use Rattle.graph.proofs.FeaturePlaces.{place-some, features-differ}
-use Rattle.graph.proofs.Resolving.{place-name}
+use Rattle.graph.proofs.FeaturePlaces.{place-some, place-name, features-differ}
 
 -- what is in two lists put together, in what a list gives, and in a list of at most one
 

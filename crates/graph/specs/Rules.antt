@@ -1,6 +1,6 @@
 -- The rules of a graph, over places.
-use Rattle.std.specs.Prelude.{ℕ, suc, Bool, true, false, List, [], ◌∷◌, ◌++◌, Some, None, codes, Option, option_map, if◌then◌else◌}
-use Rattle.std.specs.List.{flat_map, enumerate_from}
+use Rattle.std.specs.Prelude.{ℕ, Bool, true, false, List, [], ◌∷◌, ◌++◌, Some, None, codes, Option, if◌then◌else◌}
+use Rattle.std.specs.List.{flat_map, enumerate_from, position}
 use Rattle.std.specs.Str.{bytes_eq}
 use Rattle.text.specs.Forms.{Form, plain, switch, strong, weak}
 use Rattle.lanes.specs.declared.lane_numbers.Lane.{Lane}
@@ -23,8 +23,7 @@ lane_of g d = record { edge = d.edge; procedural = (package_at g d.end).proc }
 
 -- the place of a name among some features
 abbrev pub place_of : List Feature → List ℕ → Option ℕ
-place_of [] n = None
-place_of (f ∷ fs) n = if bytes_eq f.name n then Some 0 else option_map suc (place_of fs n)
+place_of fs n = position (λ f. bytes_eq f.name n) fs
 
 abbrev pub when_some : {A B : Type 0} → Option A → (A → B) → List B
 when_some None f = []

@@ -8,7 +8,7 @@ use Rattle.graph.specs.Law.{features_in}
 use Rattle.graph.specs.OpeningLaw.{DependencyAt, FeatureAt, NamedAt, IsRuleOf, needs, builds, defaults, asks, plainly, switches, joins, In}
 use Rattle.graph.specs.Places.{Item, unit, dep, feat, dependencies_of, features_of, no_dependency, no_feature}
 use Rattle.graph.specs.Rules.{Rule, lane_of}
-use Rattle.graph.proofs.Befores.{nothing-beyond}
+use Rattle.graph.proofs.Befores.{package-beyond}
 use Rattle.lanes.specs.declared.sides.Side.{Side}
 use Rattle.lanes.specs.declared.sides.Side.TheVariants.{Target}
 use Rattle.policy.specs.Answers.{Answers}
@@ -26,7 +26,7 @@ crossed (Some s) h = h
 pub feature-owner : (g : Graph) (p k : ℕ) → k < length (features_of g p) → p < length g
 feature-owner g p k l = ⊎_elim
     (λ (b : p < length g). b)
-    (λ (b : length g ≤ p). absurd (omega (arith, l, ap (λ ps. length (features_in ps)) (nothing-beyond g p b))))
+    (λ (b : length g ≤ p). absurd (omega (arith, l, ap (λ a. length (features_in a.declarations)) (package-beyond g p b))))
     (cases_lt p (length g))
 
 module _ (answers : Answers) (S : ℕ → Bool) (g h : Graph) (agree : Agree answers S g h) where
