@@ -5,7 +5,7 @@ use Rattle.std.specs.List.{flat_map}
 use Rattle.std.specs.Str.{bytes_eq}
 use Rattle.text.specs.Forms.{Form, plain, switch, strong, weak}
 use Rattle.records.specs.Graphs.{Dependency, Feature, Declaration, Graph}
-use Rattle.graph.specs.Law.{dependencies_in, features_in, Lawful}
+use Rattle.graph.specs.Law.{dependencies_in, features_in, LawfulGraph}
 use Rattle.graph.specs.Places.{unit, dep, feat, package_at, dependencies_of, features_of, no_dependency, no_feature}
 use Rattle.graph.specs.Rules.{Rule, lane_of, place_of, when_some, when, each, unless, ask_rule, dependency_rules, switch_rule, weak_rule, if_named, value_rules, feature_rules, package_rules, rules}
 use Rattle.graph.specs.OpeningLaw.{In, DependencyAt, FeatureAt, NamedAt, IsRuleOf, needs, builds, defaults, asks, plainly, switches, joins, RulesLaw}
@@ -115,7 +115,7 @@ place-named g p n j e =
     let h = place-name (features_of g p) n j e in
     (get_or (features_of g p) j no_feature, (h.0, refl), h.1)
 
-named-place : (g : Graph) → Lawful g → (p : ℕ) (n : List ℕ) (j : ℕ) → NamedAt g p j n → place_of (features_of g p) n ≡ Some j
+named-place : (g : Graph) → LawfulGraph g → (p : ℕ) (n : List ℕ) (j : ℕ) → NamedAt g p j n → place_of (features_of g p) n ≡ Some j
 named-place g law p n j h =
     place-some (features_of g p) n j h.1.0 ((bytes_eq-Decides (get_or (features_of g p) j no_feature).name n).1 (ap (λ f. f.name) h.1.1 ∙ h.2)) (features-differ g p law.packages)
 
@@ -256,7 +256,7 @@ rule-stands g ρ m =
     (in_either ρ (each (dependency_rules g p) 0 (dependencies_of g p)) (each (feature_rules g p) 0 (features_of g p)) l)
 
 -- what a dependency asks of its end, by default or by name, is among its rules
-module _ (g : Graph) (law : Lawful g) (p k : ℕ) (d : Dependency) where
+module _ (g : Graph) (law : LawfulGraph g) (p k : ℕ) (d : Dependency) where
   in-ask : (n : List ℕ) (j : ℕ) → NamedAt g d.end j n → In (record { from = dep p k; with = None; to = feat d.end j; lane = Some (lane_of g d); cross = true }) (ask_rule g p k d n)
   in-ask n j at = in_some (place_of (features_of g d.end) n) (λ i. record { from = dep p k; with = None; to = feat d.end i; lane = Some (lane_of g d); cross = true }) j (named-place g law d.end n j at)
 
@@ -265,7 +265,7 @@ module _ (g : Graph) (law : Lawful g) (p k : ℕ) (d : Dependency) where
   in-asked ρ m = in_right ρ (unless d.optional (record { from = unit p; with = None; to = dep p k; lane = Some (lane_of g d); cross = false })) _ (inr m)
 
 -- each rule that stands is one of them
-pub stands-rule : (g : Graph) → Lawful g → (ρ : Rule) → IsRuleOf g ρ → In ρ (rules g)
+pub stands-rule : (g : Graph) → LawfulGraph g → (ρ : Rule) → IsRuleOf g ρ → In ρ (rules g)
 stands-rule g law _ (needs {p} {k} {d} at o) =
     in-dependency g _ p k d at (in_left _ (unless d.optional _) _ (in-unless d.optional _ o))
 stands-rule g law _ (builds {p} {k} {d} at) =
@@ -298,5 +298,5 @@ stands-rule g law _ (joins {p} {j} {k} {i} {f} {d} {n} {x} at is dat e m) =
     here : In ρ (weak_rule g p j x k d)
     here = in_some (place_of (features_of g d.end) x) (λ a. record { from = feat p j; with = Some (dep p k); to = feat d.end a; lane = Some (lane_of g d); cross = true }) i (named-place g law d.end x i m)
 
-pub rules-law : (g : Graph) → Lawful g → RulesLaw g
+pub rules-law : (g : Graph) → LawfulGraph g → RulesLaw g
 rules-law g law ρ = (rule-stands g ρ, stands-rule g law ρ)

@@ -17,7 +17,7 @@ use Rattle.graph.specs.Places.{no_dependency, no_feature, dependencies_of, featu
 use Rattle.graph.specs.Second.{DeclarationPlace, declaration_places}
 use Rattle.graph.specs.Views.{keys}
 
--- the record of a lawful part begins at this place of the file
+-- the record of a lawful dependency or feature begins at this place of the file
 pub record RecordAt (file : List ℕ) (start : ℕ) (p : Declaration) : Type 0 where
   pub rest : List ℕ
   pub bytes : drop start file ≡ declaration_bytes p ++ rest

@@ -6,7 +6,7 @@ use Rattle.records.specs.Graphs.{Dependency, Feature, Declaration, dependency, f
 use Rattle.records.specs.Encoding.{encode, LawfulDependency, LawfulFeature}
 use Rattle.graph.specs.Limits.{max_bytes, max_packages, max_dependencies, max_features}
 
--- the dependencies and the features among the parts of a package, in order
+-- the dependencies and the features among the declarations of a package, in order
 abbrev pub dependencies_in : List Declaration → List Dependency
 dependencies_in [] = []
 dependencies_in (dependency d ∷ ps) = d ∷ dependencies_in ps
@@ -47,7 +47,7 @@ LawfulPackage p = Name p.name × AllByRecursion LawfulDeclaration p.declarations
 
 -- names and strings are lawful, no package has a feature twice, and the limits are kept; whether what the graph refers to is
 -- there, is another matter
-pub record Lawful (g : Graph) : Type 0 where
+pub record LawfulGraph (g : Graph) : Type 0 where
   pub packages : AllByRecursion LawfulPackage g
   pub few_packages : length g ≤ max_packages
   pub few_dependencies : dependency_count g ≤ max_dependencies
@@ -56,6 +56,6 @@ pub record Lawful (g : Graph) : Type 0 where
 -- the file begins with the bytes of this lawful graph, and is no longer than may be
 pub record Says (file : List ℕ) (g : Graph) : Type 0 where
   pub rest : List ℕ
-  pub lawful : Lawful g
+  pub lawful : LawfulGraph g
   pub bytes : file ≡ encode g ++ rest
   pub size : length file ≤ max_bytes
