@@ -1,6 +1,6 @@
 -- Graphs that agree on a closed target part: a set S of packages whose dependencies, where they lead from the target to the
 -- target, lead to packages in S. How a dependency that leads to the host goes on is not compared.
-use Rattle.std.specs.Prelude.{IsTrue, ◌≡◌, ℕ, zero, suc, ◌<◌, Bool, List, [], ◌∷◌, length, Some}
+use Rattle.std.specs.Prelude.{IsTrue, ◌≡◌, ℕ, ◌<◌, Bool, length, Some}
 use Rattle.records.specs.Graphs.{Dependency, Graph}
 use Rattle.graph.specs.OpeningLaw.{DependencyAt}
 use Rattle.graph.specs.Places.{dependencies_of, features_of, package_at}
