@@ -1,4 +1,5 @@
 pub mod Sets
+pub mod Members
 pub mod Links
 pub mod Scans
 pub mod Founds

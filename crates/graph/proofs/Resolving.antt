@@ -4,7 +4,7 @@ use Rattle.std.proofs.ByRecursion.{All-get_or, All-from_get_or, All-append, All-
 use Rattle.std.proofs.lemmas.Slice.Eq.{bytes_eq-Decides}
 use Rattle.std.proofs.lemmas.List.{length-append, get_or_append_left, get_or-append-add}
 use Rattle.std.proofs.lemmas.Bool.{cond-true, cond-false, ltb-true, lt-ltb, and_parts, and_from, or_cases, or_left, or_right, cases_Bool, cases_lt}
-use Rattle.std.specs.List.{AllByRecursion}
+use Rattle.std.specs.List.{AllByRecursion, Contains}
 use Rattle.std.specs.Str.{bytes_eq}
 use Rattle.text.specs.Forms.{Form, plain, switch, strong, weak, spell}
 use Rattle.records.proofs.Numbers.{not-both, in-err}
@@ -19,8 +19,9 @@ use Rattle.graph.specs.Rules.{place_of}
 use Rattle.graph.specs.Second.{DeclarationPlace, places_in_package, places_from, declaration_places, package_record, declarations_length, has_feature, has_dependency, end_has, ends_have, is_resolved, check_each, check_names, check_end, or_after, check_all, check_ends, check_references, then_check, second_reading}
 use Rattle.graph.specs.Directory.{no_place}
 use Rattle.graph.specs.Limits.{end_place, dependency_name_place, feature_name_place}
+use Rattle.graph.proofs.Members.{In, in-contains}
 use Rattle.graph.proofs.FeaturePlaces.{place-name, name-placed}
-use Rattle.graph.specs.OpeningLaw.{In, DependencyAt, FeatureAt, HasFeature, HasDependency, EndsHave, ResolvedValue, ResolvedGraph, ResolvedDeclaration}
+use Rattle.graph.specs.OpeningLaw.{DependencyAt, FeatureAt, HasFeature, HasDependency, EndsHave, ResolvedValue, ResolvedGraph, ResolvedDeclaration}
 
 -- how many records there are
 
@@ -336,7 +337,7 @@ end-unknown g (feature f) e h = absurd (not-both (sym h))
 
 -- the record at fault, and that something it refers to is not there
 abbrev Amiss : Graph → InRecord → Type 0
-Amiss g y = (x : DeclarationPlace) × In x (declaration_places g) × (y.number ≡ x.number) × (y.start ≡ x.start) × (ResolvedDeclaration g x.owner x.declaration → ⊥) × ((field : ℕ) × (y.fault ≡ Unknown field))
+Amiss g y = (x : DeclarationPlace) × Contains (declaration_places g) x × (y.number ≡ x.number) × (y.start ≡ x.start) × (ResolvedDeclaration g x.owner x.declaration → ⊥) × ((field : ℕ) × (y.fault ≡ Unknown field))
 
 pub second-amiss : (g : Graph) (y : InRecord) → second_reading g ≡ Err y → Amiss g y
 second-amiss g y e = go (check_ends g (declaration_places g)) refl e
@@ -345,13 +346,13 @@ second-amiss g y e = go (check_ends g (declaration_places g)) refl e
     of_ends h =
         let w = fault-of (λ x. check_end g x.declaration) (declaration_places g) y h in
         let u = end-unknown g w.0.declaration w.2 w.3 in
-        (w.0, w.1, ap (λ z. z.number) w.4, ap (λ z. z.start) w.4, (λ r. not-both (sym w.3 ∙ (refers-known g w.0.owner w.0.declaration r).0)), (u.0, ap (λ z. z.fault) w.4 ∙ u.1))
+        (w.0, in-contains w.0 (declaration_places g) w.1, ap (λ z. z.number) w.4, ap (λ z. z.start) w.4, (λ r. not-both (sym w.3 ∙ (refers-known g w.0.owner w.0.declaration r).0)), (u.0, ap (λ z. z.fault) w.4 ∙ u.1))
 
     of_names : check_references g (declaration_places g) ≡ Err y → Amiss g y
     of_names h =
         let w = fault-of (λ x. check_names g x.owner x.declaration) (declaration_places g) y h in
         let u = part-unknown g w.0.owner w.0.declaration w.2 w.3 in
-        (w.0, w.1, ap (λ z. z.number) w.4, ap (λ z. z.start) w.4, (λ r. not-both (sym w.3 ∙ (refers-known g w.0.owner w.0.declaration r).1)), (u.0, ap (λ z. z.fault) w.4 ∙ u.1))
+        (w.0, in-contains w.0 (declaration_places g) w.1, ap (λ z. z.number) w.4, ap (λ z. z.start) w.4, (λ r. not-both (sym w.3 ∙ (refers-known g w.0.owner w.0.declaration r).1)), (u.0, ap (λ z. z.fault) w.4 ∙ u.1))
 
     go : (r : Result (Unit {0}) InRecord) → check_ends g (declaration_places g) ≡ r → then_check r (check_references g (declaration_places g)) ≡ Err y → Amiss g y
     go (Ok u) q h = of_names h

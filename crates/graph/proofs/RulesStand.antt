@@ -1,19 +1,19 @@
 -- The rules of a lawful graph are exactly those that stand.
 use Rattle.std.proofs.Common.{◌≡◌, ℕ, zero, suc, ◌+◌, ◌<◌, Bool, true, false, cond, ◌⊎◌, List, [], ◌∷◌, ◌++◌, length, get_or, Some, None, codes, Option, sym, refl, ap, ◌∙◌, subst, inl, inr, ⊎_elim, arith}
 use Rattle.std.proofs.lemmas.Slice.Eq.{bytes_eq-Decides}
-use Rattle.std.specs.List.{flat_map}
+use Rattle.std.specs.List.{flat_map, Contains}
 use Rattle.std.specs.Str.{bytes_eq}
 use Rattle.text.specs.Forms.{Form, plain, switch, strong, weak}
 use Rattle.records.specs.Graphs.{Dependency, Feature, Declaration, Graph}
 use Rattle.graph.specs.Law.{dependencies_in, features_in, LawfulGraph}
 use Rattle.graph.specs.Places.{unit, dep, feat, package_at, dependencies_of, features_of, no_dependency, no_feature}
 use Rattle.graph.specs.Rules.{Rule, lane_of, place_of, when_some, when, each, unless, ask_rule, dependency_rules, switch_rule, weak_rule, if_named, value_rules, feature_rules, package_rules, rules}
-use Rattle.graph.specs.OpeningLaw.{In, DependencyAt, FeatureAt, NamedAt, IsRuleOf, needs, builds, defaults, asks, plainly, switches, joins, RulesLaw}
+use Rattle.graph.specs.OpeningLaw.{DependencyAt, FeatureAt, NamedAt, IsRuleOf, needs, builds, defaults, asks, plainly, switches, joins, RulesLaw}
+use Rattle.graph.proofs.Members.{In, contains-in, in-contains}
 use Rattle.graph.proofs.FeaturePlaces.{place-some, place-name, features-differ}
 
 -- what is in two lists put together, in what a list gives, and in a list of at most one
 
--- of `In`, by recursion as the cases of a rule take it apart; the library's `Contains` goes by place
 in_left : {A : Type 0} (x : A) (xs ys : List A) → In x xs → In x (xs ++ ys)
 in_left x [] ys h = absurd h
 in_left x (y ∷ xs) ys h = ⊎_elim (λ (e : x ≡ y). inl e) (λ (m : In x xs). inr (in_left x xs ys m)) h
@@ -148,12 +148,12 @@ in-dependency g ρ p k d at m =
     in-packages g ρ 0 g p (subst (λ i. In ρ (of_parts g i (package_at g p).declarations)) z
     (in_left ρ (each (dependency_rules g p) 0 (dependencies_of g p)) (each (feature_rules g p) 0 (features_of g p)) (in-first (dependency_rules g p) ρ no_dependency (dependencies_of g p) k d at m)))
 
-in-value : (g : Graph) (ρ : Rule) (p j : ℕ) (f : Feature) (v : Form (List ℕ)) → FeatureAt g p j f → In v f.values → In ρ (value_rules g p j v) → In ρ (rules g)
+in-value : (g : Graph) (ρ : Rule) (p j : ℕ) (f : Feature) (v : Form (List ℕ)) → FeatureAt g p j f → Contains f.values v → In ρ (value_rules g p j v) → In ρ (rules g)
 in-value g ρ p j f v at is m =
     let z : p ≡ 0 + p = omega arith in
     in-packages g ρ 0 g p (subst (λ i. In ρ (of_parts g i (package_at g p).declarations)) z
     (in_right ρ (each (dependency_rules g p) 0 (dependencies_of g p)) (each (feature_rules g p) 0 (features_of g p))
-    (in-first (feature_rules g p) ρ no_feature (features_of g p) j f at (in-joined (value_rules g p j) ρ f.values v is m))))
+    (in-first (feature_rules g p) ρ no_feature (features_of g p) j f at (in-joined (value_rules g p j) ρ f.values v (contains-in v f.values is) m))))
 
 -- for a dependency of a name
 in-named : (g : Graph) (ρ : Rule) (p k : ℕ) (d : Dependency) (n : List ℕ) (f : ℕ → Dependency → List Rule) → DependencyAt g p k d → d.name ≡ n → In ρ (f k d) → In ρ (each (if_named n f) 0 (dependencies_of g p))
@@ -191,7 +191,7 @@ module _ (g : Graph) (ρ : Rule) (p k : ℕ) (d : Dependency) (at : DependencyAt
       (λ (w : In ρ by_ask).
       let c = joined-from (ask_rule g p k d) ρ d.asks w in
       let r = ask-from c.0 c.2 in
-      subst (IsRuleOf g) (sym r.2) (asks at c.1 r.1))
+      subst (IsRuleOf g) (sym r.2) (asks at (in-contains c.0 d.asks c.1) r.1))
       (in_either ρ by_default by_ask l))
       h)
       (in_either ρ (unless d.optional need) (build ∷ [] ++ (by_default ++ by_ask)) m)
@@ -210,17 +210,17 @@ module _ (g : Graph) (ρ : Rule) (p k : ℕ) (d : Dependency) (at : DependencyAt
 
 -- each rule of a value of a feature stands
 module _ (g : Graph) (ρ : Rule) (p j : ℕ) (f : Feature) (at : FeatureAt g p j f) where
-  switch-stands : (n : List ℕ) → In (switch n) f.values ⊎ ((x : List ℕ) × In (strong n x) f.values) → (k : ℕ) (d : Dependency) → DependencyAt g p k d → d.name ≡ n → In ρ (switch_rule g p j k d) → IsRuleOf g ρ
+  switch-stands : (n : List ℕ) → Contains f.values (switch n) ⊎ ((x : List ℕ) × Contains f.values (strong n x)) → (k : ℕ) (d : Dependency) → DependencyAt g p k d → d.name ≡ n → In ρ (switch_rule g p j k d) → IsRuleOf g ρ
   switch-stands n is k d dat e m =
       let r = when-from d.optional (record { from = feat p j; with = None; to = dep p k; lane = Some (lane_of g d); cross = false }) ρ m in
       subst (IsRuleOf g) (sym r.1) (switches at is dat e r.0)
 
-  weak-stands : (n x : List ℕ) → In (strong n x) f.values ⊎ In (weak n x) f.values → (k : ℕ) (d : Dependency) → DependencyAt g p k d → d.name ≡ n → In ρ (weak_rule g p j x k d) → IsRuleOf g ρ
+  weak-stands : (n x : List ℕ) → Contains f.values (strong n x) ⊎ Contains f.values (weak n x) → (k : ℕ) (d : Dependency) → DependencyAt g p k d → d.name ≡ n → In ρ (weak_rule g p j x k d) → IsRuleOf g ρ
   weak-stands n x is k d dat e m =
       let r = some-from (place_of (features_of g d.end) x) (λ i. record { from = feat p j; with = Some (dep p k); to = feat d.end i; lane = Some (lane_of g d); cross = true }) ρ m in
       subst (IsRuleOf g) (sym r.2) (joins at is dat e (place-named g d.end x r.0 r.1))
 
-  value-stands : (v : Form (List ℕ)) → In v f.values → In ρ (value_rules g p j v) → IsRuleOf g ρ
+  value-stands : (v : Form (List ℕ)) → Contains f.values v → In ρ (value_rules g p j v) → IsRuleOf g ρ
   value-stands (plain n) is m =
       let r = some-from (place_of (features_of g p) n) (λ i. record { from = feat p j; with = None; to = feat p i; lane = None; cross = false }) ρ m in
       subst (IsRuleOf g) (sym r.2) (plainly at is (place-named g p n r.0 r.1))
@@ -238,9 +238,9 @@ module _ (g : Graph) (ρ : Rule) (p j : ℕ) (f : Feature) (at : FeatureAt g p j
       (in_either ρ (switch_rule g p j r.0 r.1) (weak_rule g p j x r.0 r.1) r.4)
 
 -- each rule of a graph stands
-pub rule-stands : (g : Graph) (ρ : Rule) → In ρ (rules g) → IsRuleOf g ρ
+pub rule-stands : (g : Graph) (ρ : Rule) → Contains (rules g) ρ → IsRuleOf g ρ
 rule-stands g ρ m =
-    let r = packages-from g ρ 0 g m in
+    let r = packages-from g ρ 0 g (contains-in ρ (rules g) m) in
     let p : ℕ = r.0 in
     let z : 0 + p ≡ p = omega arith in
     let l : In ρ (of_parts g p (package_at g p).declarations) = subst (λ i. In ρ (of_parts g i (package_at g p).declarations)) z r.1 in
@@ -252,7 +252,7 @@ rule-stands g ρ m =
     let c = first-from (feature_rules g p) ρ no_feature (features_of g p) h in
     let f : Feature = get_or (features_of g p) c.0 no_feature in
     let v = joined-from (value_rules g p c.0) ρ f.values c.2 in
-    value-stands g ρ p c.0 f (c.1, refl) v.0 v.1 v.2)
+    value-stands g ρ p c.0 f (c.1, refl) v.0 (in-contains v.0 f.values v.1) v.2)
     (in_either ρ (each (dependency_rules g p) 0 (dependencies_of g p)) (each (feature_rules g p) 0 (features_of g p)) l)
 
 -- what a dependency asks of its end, by default or by name, is among its rules
@@ -265,31 +265,31 @@ module _ (g : Graph) (law : LawfulGraph g) (p k : ℕ) (d : Dependency) where
   in-asked ρ m = in_right ρ (unless d.optional (record { from = unit p; with = None; to = dep p k; lane = Some (lane_of g d); cross = false })) _ (inr m)
 
 -- each rule that stands is one of them
-pub stands-rule : (g : Graph) → LawfulGraph g → (ρ : Rule) → IsRuleOf g ρ → In ρ (rules g)
-stands-rule g law _ (needs {p} {k} {d} at o) =
+standing-in : (g : Graph) → LawfulGraph g → (ρ : Rule) → IsRuleOf g ρ → In ρ (rules g)
+standing-in g law _ (needs {p} {k} {d} at o) =
     in-dependency g _ p k d at (in_left _ (unless d.optional _) _ (in-unless d.optional _ o))
-stands-rule g law _ (builds {p} {k} {d} at) =
+standing-in g law _ (builds {p} {k} {d} at) =
     in-dependency g _ p k d at (in_right _ (unless d.optional (record { from = unit p; with = None; to = dep p k; lane = Some (lane_of g d); cross = false })) _ (inl refl))
-stands-rule g law _ (defaults {p} {k} {j} {d} at o n) =
+standing-in g law _ (defaults {p} {k} {j} {d} at o n) =
     in-dependency g _ p k d at (in-asked g law p k d _ (in_left _ (cond d.defaults (ask_rule g p k d (codes "default")) []) _ (in-cond d.defaults _ _ o (in-ask g law p k d (codes "default") j n))))
-stands-rule g law _ (asks {p} {k} {j} {d} {n} at is m) =
-    in-dependency g _ p k d at (in-asked g law p k d _ (in_right _ (cond d.defaults (ask_rule g p k d (codes "default")) []) _ (in-joined (ask_rule g p k d) _ d.asks n is (in-ask g law p k d n j m))))
-stands-rule g law _ (plainly {p} {j} {i} {f} {n} at is m) =
+standing-in g law _ (asks {p} {k} {j} {d} {n} at is m) =
+    in-dependency g _ p k d at (in-asked g law p k d _ (in_right _ (cond d.defaults (ask_rule g p k d (codes "default")) []) _ (in-joined (ask_rule g p k d) _ d.asks n (contains-in n d.asks is) (in-ask g law p k d n j m))))
+standing-in g law _ (plainly {p} {j} {i} {f} {n} at is m) =
     in-value g _ p j f (plain n) at is (in_some (place_of (features_of g p) n) _ i (named-place g law p n i m))
-stands-rule g law _ (switches {p} {j} {k} {f} {d} {n} at is dat e o) =
+standing-in g law _ (switches {p} {j} {k} {f} {d} {n} at is dat e o) =
     ⊎_elim
-    (λ (s : In (switch n) f.values). in-value g ρ p j f (switch n) at s (in-named g ρ p k d n (switch_rule g p j) dat e (in-when d.optional ρ o)))
-    (λ (s : (x : List ℕ) × In (strong n x) f.values). in-value g ρ p j f (strong n s.0) at s.1
+    (λ (s : Contains f.values (switch n)). in-value g ρ p j f (switch n) at s (in-named g ρ p k d n (switch_rule g p j) dat e (in-when d.optional ρ o)))
+    (λ (s : (x : List ℕ) × Contains f.values (strong n x)). in-value g ρ p j f (strong n s.0) at s.1
     (in-named g ρ p k d n (λ i c. switch_rule g p j i c ++ weak_rule g p j s.0 i c) dat e (in_left ρ (switch_rule g p j k d) (weak_rule g p j s.0 k d) (in-when d.optional ρ o))))
     is
   where
     ρ : Rule
     ρ = record { from = feat p j; with = None; to = dep p k; lane = Some (lane_of g d); cross = false }
-stands-rule g law _ (joins {p} {j} {k} {i} {f} {d} {n} {x} at is dat e m) =
+standing-in g law _ (joins {p} {j} {k} {i} {f} {d} {n} {x} at is dat e m) =
     ⊎_elim
-    (λ (s : In (strong n x) f.values). in-value g ρ p j f (strong n x) at s
+    (λ (s : Contains f.values (strong n x)). in-value g ρ p j f (strong n x) at s
     (in-named g ρ p k d n (λ a c. switch_rule g p j a c ++ weak_rule g p j x a c) dat e (in_right ρ (switch_rule g p j k d) (weak_rule g p j x k d) here)))
-    (λ (s : In (weak n x) f.values). in-value g ρ p j f (weak n x) at s (in-named g ρ p k d n (weak_rule g p j x) dat e here))
+    (λ (s : Contains f.values (weak n x)). in-value g ρ p j f (weak n x) at s (in-named g ρ p k d n (weak_rule g p j x) dat e here))
     is
   where
     ρ : Rule
@@ -297,6 +297,9 @@ stands-rule g law _ (joins {p} {j} {k} {i} {f} {d} {n} {x} at is dat e m) =
 
     here : In ρ (weak_rule g p j x k d)
     here = in_some (place_of (features_of g d.end) x) (λ a. record { from = feat p j; with = Some (dep p k); to = feat d.end a; lane = Some (lane_of g d); cross = true }) i (named-place g law d.end x i m)
+
+pub stands-rule : (g : Graph) → LawfulGraph g → (ρ : Rule) → IsRuleOf g ρ → Contains (rules g) ρ
+stands-rule g law ρ h = in-contains ρ (rules g) (standing-in g law ρ h)
 
 pub rules-law : (g : Graph) → LawfulGraph g → RulesLaw g
 rules-law g law ρ = (rule-stands g ρ, stands-rule g law ρ)

@@ -1,6 +1,6 @@
 -- Opening accepts exactly the lawful graphs, and lays down exactly their rules.
-use Rattle.std.specs.Prelude.{◌≡◌, ℕ, ◌+◌, ◌*◌, ◌<◌, ◌≤◌, true, false, ◌⊎◌, List, [], ◌∷◌, ◌++◌, length, Some, None, Ok, Err, codes, Result, slice_index_or}
-use Rattle.std.specs.List.{flat_map, AllByRecursion}
+use Rattle.std.specs.Prelude.{◌≡◌, ℕ, ◌+◌, ◌*◌, ◌<◌, ◌≤◌, true, false, ◌⊎◌, List, ◌++◌, length, Some, None, Ok, Err, codes, Result, slice_index_or}
+use Rattle.std.specs.List.{flat_map, AllByRecursion, Contains}
 use Rattle.text.specs.Forms.{Form, plain, switch, strong, weak}
 use Rattle.records.specs.declared.faults.RecordFault.{RecordFault}
 use Rattle.records.specs.declared.faults.RecordFault.TheVariants.{Cut, Stray, Ragged, Mark, Text, Twice, Unknown, Many}
@@ -16,11 +16,6 @@ use Rattle.graph.specs.Words.{rows, graph_words}
 use Rattle.graph.specs.Opening.{over, opened_counts}
 use Rattle.graph.specs.Second.{DeclarationPlace, declaration_places}
 use Rattle.graph.specs.Limits.{max_bytes, max_rule_rows, head_words, row_width}
-
--- x is one of these: by recursion, and not by a place as the library's `Contains`, so that each rule's case takes it apart
-abbrev pub In : {A : Type 0} → A → List A → Type 0
-In x [] = ⊥
-In x (y ∷ ys) = (x ≡ y) ⊎ In x ys
 
 -- d is dependency k of package p; f is feature k of package p
 abbrev pub DependencyAt : Graph → ℕ → ℕ → Dependency → Type 0
@@ -85,7 +80,7 @@ pub record UnresolvedRecord (file : List ℕ) (number start : ℕ) : Type 0 wher
   pub graph : Graph
   pub says : Says file graph
   pub at : DeclarationPlace
-  pub among : In at (declaration_places graph)
+  pub among : Contains (declaration_places graph) at
   pub number_is : number ≡ at.number
   pub start_is : start ≡ at.start
   pub amiss : ResolvedDeclaration graph at.owner at.declaration → ⊥
@@ -131,18 +126,18 @@ pub data IsRuleOf (g : Graph) : Rule → Type 0 where
   defaults : {p k j : ℕ} {d : Dependency} → DependencyAt g p k d → d.defaults ≡ true → NamedAt g d.end j (codes "default") →
       IsRuleOf g (record { from = dep p k; with = None; to = feat d.end j; lane = Some (lane_of g d); cross = true })
   -- and the features that it asks for
-  asks : {p k j : ℕ} {d : Dependency} {n : List ℕ} → DependencyAt g p k d → In n d.asks → NamedAt g d.end j n →
+  asks : {p k j : ℕ} {d : Dependency} {n : List ℕ} → DependencyAt g p k d → Contains d.asks n → NamedAt g d.end j n →
       IsRuleOf g (record { from = dep p k; with = None; to = feat d.end j; lane = Some (lane_of g d); cross = true })
   -- a plain value turns on a feature of the same package
-  plainly : {p j i : ℕ} {f : Feature} {n : List ℕ} → FeatureAt g p j f → In (plain n) f.values → NamedAt g p i n →
+  plainly : {p j i : ℕ} {f : Feature} {n : List ℕ} → FeatureAt g p j f → Contains f.values (plain n) → NamedAt g p i n →
       IsRuleOf g (record { from = feat p j; with = None; to = feat p i; lane = None; cross = false })
   -- a switch or a strong value turns on each optional dependency that it names
-  switches : {p j k : ℕ} {f : Feature} {d : Dependency} {n : List ℕ} → FeatureAt g p j f → In (switch n) f.values ⊎ ((x : List ℕ) × In (strong n x) f.values) → DependencyAt g p k d → d.name ≡ n → d.optional ≡ true →
+  switches : {p j k : ℕ} {f : Feature} {d : Dependency} {n : List ℕ} → FeatureAt g p j f → Contains f.values (switch n) ⊎ ((x : List ℕ) × Contains f.values (strong n x)) → DependencyAt g p k d → d.name ≡ n → d.optional ≡ true →
       IsRuleOf g (record { from = feat p j; with = None; to = dep p k; lane = Some (lane_of g d); cross = false })
   -- a strong or a weak value, with each dependency that it names, turns on the feature of its end
-  joins : {p j k i : ℕ} {f : Feature} {d : Dependency} {n x : List ℕ} → FeatureAt g p j f → In (strong n x) f.values ⊎ In (weak n x) f.values → DependencyAt g p k d → d.name ≡ n → NamedAt g d.end i x →
+  joins : {p j k i : ℕ} {f : Feature} {d : Dependency} {n x : List ℕ} → FeatureAt g p j f → Contains f.values (strong n x) ⊎ Contains f.values (weak n x) → DependencyAt g p k d → d.name ≡ n → NamedAt g d.end i x →
       IsRuleOf g (record { from = feat p j; with = Some (dep p k); to = feat d.end i; lane = Some (lane_of g d); cross = true })
 
 -- the rules of a graph are exactly those that stand
 abbrev pub RulesLaw : Graph → Type 0
-RulesLaw g = (ρ : Rule) → (In ρ (rules g) → IsRuleOf g ρ) × (IsRuleOf g ρ → In ρ (rules g))
+RulesLaw g = (ρ : Rule) → (Contains (rules g) ρ → IsRuleOf g ρ) × (IsRuleOf g ρ → Contains (rules g) ρ)

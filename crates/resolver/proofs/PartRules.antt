@@ -2,10 +2,11 @@
 use Rattle.std.proofs.Common.{◌≡◌, ℕ, ◌<◌, ◌≤◌, Bool, true, List, length, get_or, Some, None, Option, codes, sym, refl, ap, ◌∙◌, subst, ⊎_elim, arith}
 use Rattle.std.specs.Prelude.{IsTrue}
 use Rattle.std.proofs.lemmas.Bool.{cases_lt}
+use Rattle.std.specs.List.{Contains}
 use Rattle.lanes.specs.declared.lane_numbers.Lane.{Lane}
 use Rattle.records.specs.Graphs.{Dependency, Feature, Graph}
 use Rattle.graph.specs.Law.{features_in}
-use Rattle.graph.specs.OpeningLaw.{DependencyAt, FeatureAt, NamedAt, IsRuleOf, needs, builds, defaults, asks, plainly, switches, joins, In}
+use Rattle.graph.specs.OpeningLaw.{DependencyAt, FeatureAt, NamedAt, IsRuleOf, needs, builds, defaults, asks, plainly, switches, joins}
 use Rattle.graph.specs.Places.{Item, unit, dep, feat, dependencies_of, features_of, no_dependency, no_feature}
 use Rattle.graph.specs.Rules.{Rule, lane_of}
 use Rattle.graph.proofs.Befores.{package-beyond}
@@ -83,7 +84,7 @@ module _ (answers : Answers) (S : ℕ → Bool) (g h : Graph) (agree : Agree ans
       over d e a (dep p k) None (λ q. feat q j) (λ q. refl) leads (λ z. defaults there (sym z.2 ∙ o) (end-name d e j (codes "default") z.0 z.3 m))
   counterpart ρ (asks {p} {k} {j} {d} {n} at i m) leads s =
       let (e, there, a) = other p k d s at in
-      over d e a (dep p k) None (λ q. feat q j) (λ q. refl) leads (λ z. asks there (subst (In n) z.1 i) (end-name d e j n z.0 z.3 m))
+      over d e a (dep p k) None (λ q. feat q j) (λ q. refl) leads (λ z. asks there (subst (λ xs. Contains xs n) z.1 i) (end-name d e j n z.0 z.3 m))
   counterpart ρ (plainly {p} {j} {i} {f} {n} at v m) leads s =
       record { lane = None; is_rule = plainly (same-feature p j f s at) v (same-name p i n s m); same = refl; within = s }
   counterpart ρ (switches {p} {j} {k} {f} {d} {n} at v dat q o) leads s =

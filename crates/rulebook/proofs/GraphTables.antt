@@ -1,14 +1,14 @@
 -- The table of words that opening wrote is that of the graph.
-use Rattle.std.proofs.Common.{◌≡◌, ℕ, zero, suc, ◌+◌, ◌-◌, ◌*◌, ◌%◌, ◌<◌, ◌≤◌, true, false, ltb, List, [], ◌∷◌, ◌++◌, length, get_or, drop, Some, None, Option, sym, refl, ap, ◌∙◌, subst, inl, inr, ⊎_elim, arith, length-append, option_map, IfSome}
+use Rattle.std.proofs.Common.{◌≡◌, ℕ, ◌+◌, ◌-◌, ◌*◌, ◌%◌, ◌<◌, ◌≤◌, true, false, ltb, List, ◌++◌, length, get_or, drop, Some, None, Option, sym, refl, ap, ◌∙◌, subst, inl, inr, ⊎_elim, arith, length-append, option_map, IfSome}
 use lib.Arith.{digits_mod}
-use Rattle.std.proofs.lemmas.List.{length-map, get_or-map}
+use Rattle.std.proofs.lemmas.List.{length-map, get_or-map, get_or_default}
 use Rattle.std.proofs.lemmas.Bool.{cond-true, and_from, le-leb, lt-ltb, cases_lt}
 use Rattle.records.specs.Graphs.{Graph}
 use Rattle.graph.specs.declared.rows.Row.{Row}
 use Rattle.graph.specs.declared.graph_words.WordCounts.{WordCounts}
 use Rattle.graph.specs.Law.{dependency_count, feature_count}
 use Rattle.graph.specs.Opening.{over}
-use Rattle.graph.specs.OpeningLaw.{In, NamedAt, Opens, ResolvedGraph, IsRuleOf, needs, builds, defaults, asks, plainly, switches, joins}
+use Rattle.graph.specs.OpeningLaw.{NamedAt, Opens, ResolvedGraph, IsRuleOf, needs, builds, defaults, asks, plainly, switches, joins}
 use Rattle.graph.specs.Places.{Item, unit, feat, number, item_count}
 use Rattle.graph.specs.Rules.{Rule, rules}
 use Rattle.graph.specs.Items.{item_on, side_of}
@@ -55,17 +55,6 @@ module _ (g : Graph) (resolved : ResolvedGraph g) where
   sane ρ (plainly {p} {j} {i} {f} {n} at v m) = record { from = at.0; with = tt; to = m.1.0 }
   sane ρ (switches {p} {j} {k} {f} {d} {n} at v dat e o) = record { from = at.0; with = tt; to = dat.0 }
   sane ρ (joins {p} {j} {k} {i} {f} {d} {n} {x} at v dat e m) = record { from = at.0; with = dat.0; to = m.1.0 }
-
--- between `In`, which goes by recursion, and a place, as the library's `Contains` has it
-in-at : {A : Type 0} (xs : List A) (r : ℕ) (d : A) → r < length xs → In (get_or xs r d) xs
-in-at [] r d h = absurd (omega arith)
-in-at (x ∷ xs) zero d h = inl refl
-in-at (x ∷ xs) (suc r) d h = inr (in-at xs r d (omega arith))
-
-at_in : {A : Type 0} (x : A) (xs : List A) (d : A) → In x xs → (r : ℕ) × (r < length xs) × (get_or xs r d ≡ x)
-at_in x [] d h = absurd h
-at_in x (y ∷ xs) d (inl e) = (0, omega arith, sym e)
-at_in x (y ∷ xs) d (inr m) = let (r, l, e) = at_in x xs d m in (suc r, omega arith, e)
 
 abbrev no_rule : Rule
 no_rule = record { from = unit 0; with = None; to = unit 0; lane = None; cross = false }
@@ -120,7 +109,7 @@ module _ (file words : List ℕ) (g : Graph) (opens : Opens file words g) (answe
   row-read : (r : ℕ) → r < count → row_in ws r ≡ Some (row_of g (rule_at r))
   row-read r h =
       let e : get_or (rows g) r (row_of g no_rule) ≡ row_of g (rule_at r) = get_or-map (row_of g) (rules g) r no_rule (row_of g no_rule) (fewer r h) in
-      let k = sane g opens.resolved (rule_at r) (rule-stands g (rule_at r) (in-at (rules g) r no_rule (fewer r h))) in
+      let k = sane g opens.resolved (rule_at r) (rule-stands g (rule_at r) (r, fewer r h, get_or_default (rules g) r _ no_rule (fewer r h))) in
       cond-true (ltb r (row_count ws)) _ None (lt-ltb r (row_count ws) (omega (arith, all-rows)))
       ∙ ap (λ k. row_at k ws (row_start r)) all-local
       ∙ row-back (length g) (dependency_count g) (feature_count g) count (rows g) xs n r (row_of g no_rule) h
@@ -159,7 +148,7 @@ module _ (file words : List ℕ) (g : Graph) (opens : Opens file words g) (answe
         side = f.at;
         goal = f.goal;
         rule = rule_at r;
-        is_rule = rule-stands g (rule_at r) (in-at (rules g) r no_rule (fewer r low));
+        is_rule = rule-stands g (rule_at r) (r, fewer r low, get_or_default (rules g) r _ no_rule (fewer r low));
         leads = ap (λ (w : Row). landing f.at w.cross (row_lead answers f.at w.lane)) (sym same) ∙ f.lands;
         conclusion = s.watch.concludes ∙ ap (λ (ρ : ItemRule). ρ.to) is;
         premises = ⊎_elim
@@ -172,7 +161,8 @@ module _ (file words : List ℕ) (g : Graph) (opens : Opens file words g) (answe
 
   complete : (i : ℕ) (e : WatchEntry) → IsWatchEntryOf answers g i e → (r : ℕ) × (entry_in (rule i r) i ≡ Some e)
   complete i e w =
-      let (r, low, eq) = at_in w.rule (rules g) no_rule (stands-rule g opens.says.lawful w.rule w.is_rule) in
+      let (r, low, at) = stands-rule g opens.says.lawful w.rule w.is_rule in
+      let eq : rule_at r ≡ w.rule = get_or_default (rules g) r no_rule w.rule low ∙ at in
       let h : r < count = omega (arith, length-map (rules g) (row_of g)) in
       let k = sane g opens.resolved w.rule w.is_rule in
       let leads : Leads answers w.side (rule_at r) w.goal = subst (λ (ρ : Rule). Leads answers w.side ρ w.goal) (sym eq) w.leads in
