@@ -80,8 +80,11 @@ pub record Examples : Type 0 where
   pub items : (length example + dependency_count example) + feature_count example ≡ 10
   pub words : graph_words example ≡ example_words
   pub size : length example_words ≡ 54
-  pub opens : (words : List ℕ) → 54 ≤ length words → open_answer (encode example) words ≡ Ok example_opened
-  pub leaves : (words : List ℕ) → 54 ≤ length words → open_leaves (encode example) words ≡ over example_words words
+  pub opens : (words : List ℕ) → 54 ≤ length words →
+      open_answer (encode example) words ≡ Ok example_opened
+  pub leaves : (words : List ℕ) → 54 ≤ length words →
+      open_leaves (encode example) words ≡ over example_words words
   pub refuses : (words : List ℕ) → open_answer (encode typo_example) words ≡ Err typo_fault
-  pub refusal : refusal_of typo_fault ≡ record { number = 7; record_number = 4; start = 52; field = 16; prefix = 0 }
+  pub refusal : refusal_of typo_fault ≡
+      record { number = 7; record_number = 4; start = 52; field = 16; prefix = 0 }
   pub byte : byte (refusal_of typo_fault) ≡ 68

@@ -43,10 +43,12 @@ Differ [] = Unit {0}
 Differ (f ∷ fs) = AllByRecursion (λ h. h.name ≢ f.name) fs × Differ fs
 
 abbrev pub LawfulPackage : Package → Type 0
-LawfulPackage p = Name p.name × AllByRecursion LawfulDeclaration p.declarations × Differ (features_in p.declarations)
+LawfulPackage p =
+    Name p.name × AllByRecursion LawfulDeclaration p.declarations
+    × Differ (features_in p.declarations)
 
--- names and strings are lawful, no package has a feature twice, and the limits are kept; whether what the graph refers to is
--- there, is another matter
+-- names and strings are lawful, no package has a feature twice, and the limits are kept; whether what
+-- the graph refers to is there, is another matter
 pub record LawfulGraph (g : Graph) : Type 0 where
   pub packages : AllByRecursion LawfulPackage g
   pub few_packages : length g ≤ max_packages

@@ -32,7 +32,8 @@ head_words = 4
 abbrev pub row_width : ℕ
 row_width = 5
 
--- where in its record the end of a dependency stands, and where the name of a dependency and that of a feature begins
+-- where in its record the end of a dependency stands, and where the name of a dependency and that of
+-- a feature begins
 abbrev pub end_place : ℕ
 end_place = 6
 

@@ -26,11 +26,13 @@ opened_counts g n = record {
 }
 
 -- what comes after the first reading, and after the second; a fault is the answer
-abbrev pub after_first : {A : Type 0} → Result (Graph × ℕ) FileFault → (Graph → ℕ → Result A FileFault) → Result A FileFault
+abbrev pub after_first : {A : Type 0} →
+    Result (Graph × ℕ) FileFault → (Graph → ℕ → Result A FileFault) → Result A FileFault
 after_first (Ok p) k = k p.0 p.1
 after_first (Err e) k = Err e
 
-abbrev pub after_second : {A : Type 0} → Result (Unit {0}) InRecord → Result A FileFault → Result A FileFault
+abbrev pub after_second : {A : Type 0} →
+    Result (Unit {0}) InRecord → Result A FileFault → Result A FileFault
 after_second (Ok u) r = r
 after_second (Err e) r = Err (Record e)
 
@@ -44,7 +46,8 @@ rows_answer g n words =
 -- both readings, then the rows
 abbrev pub open_answer : List ℕ → List ℕ → Result Opened FileFault
 open_answer file words =
-    after_first (first_reading file) (λ g n. after_second (second_reading g) (rows_answer g n words))
+    after_first (first_reading file) (λ g n.
+    after_second (second_reading g) (rows_answer g n words))
 
 -- what the words hold afterwards: the words of the graph in front; a refusal leaves all as it was
 abbrev pub words_after : Result Opened FileFault → Graph → List ℕ → List ℕ

@@ -19,10 +19,12 @@ use Rattle.graph.specs.Limits.{max_bytes, max_rule_rows, head_words, row_width}
 
 -- d is dependency k of package p; f is feature k of package p
 abbrev pub DependencyAt : Graph → ℕ → ℕ → Dependency → Type 0
-DependencyAt g p k d = (k < length (dependencies_of g p)) × (slice_index_or (dependencies_of g p) k no_dependency ≡ d)
+DependencyAt g p k d =
+    (k < length (dependencies_of g p)) × (slice_index_or (dependencies_of g p) k no_dependency ≡ d)
 
 abbrev pub FeatureAt : Graph → ℕ → ℕ → Feature → Type 0
-FeatureAt g p k f = (k < length (features_of g p)) × (slice_index_or (features_of g p) k no_feature ≡ f)
+FeatureAt g p k f =
+    (k < length (features_of g p)) × (slice_index_or (features_of g p) k no_feature ≡ f)
 
 -- feature k of package p has this name; package p has a feature of this name
 abbrev pub NamedAt : Graph → ℕ → ℕ → List ℕ → Type 0
@@ -36,7 +38,8 @@ abbrev pub HasDependency : Graph → ℕ → List ℕ → Type 0
 HasDependency g p n = (k : ℕ) × (d : Dependency) × DependencyAt g p k d × (d.name ≡ n)
 
 abbrev pub EndsHave : Graph → ℕ → List ℕ → List ℕ → Type 0
-EndsHave g p n x = (k : ℕ) (d : Dependency) → DependencyAt g p k d → d.name ≡ n → HasFeature g d.end x
+EndsHave g p n x =
+    (k : ℕ) (d : Dependency) → DependencyAt g p k d → d.name ≡ n → HasFeature g d.end x
 
 -- what a value of package p names is there
 abbrev pub ResolvedValue : Graph → ℕ → Form (List ℕ) → Type 0
@@ -48,10 +51,13 @@ ResolvedValue g p (weak n x) = HasDependency g p n × EndsHave g p n x
 -- every reference of a graph is resolved
 pub record ResolvedGraph (g : Graph) : Type 0 where
   pub ends : (p k : ℕ) (d : Dependency) → DependencyAt g p k d → d.end < length g
-  pub asks : (p k : ℕ) (d : Dependency) → DependencyAt g p k d → AllByRecursion (HasFeature g d.end) d.asks
-  pub values : (p k : ℕ) (f : Feature) → FeatureAt g p k f → AllByRecursion (ResolvedValue g p) f.values
+  pub asks : (p k : ℕ) (d : Dependency) → DependencyAt g p k d →
+      AllByRecursion (HasFeature g d.end) d.asks
+  pub values : (p k : ℕ) (f : Feature) → FeatureAt g p k f →
+      AllByRecursion (ResolvedValue g p) f.values
 
--- the file says this graph, its references are resolved, its rows are few enough and the words suffice
+-- the file says this graph, its references are resolved, its rows are few enough and the words
+-- suffice
 pub record Opens (file words : List ℕ) (g : Graph) : Type 0 where
   pub says : Says file g
   pub resolved : ResolvedGraph g
@@ -60,14 +66,16 @@ pub record Opens (file words : List ℕ) (g : Graph) : Type 0 where
 
 -- what this dependency or feature of package p refers to is there
 abbrev pub ResolvedDeclaration : Graph → ℕ → Declaration → Type 0
-ResolvedDeclaration g p (dependency d) = (d.end < length g) × AllByRecursion (HasFeature g d.end) d.asks
+ResolvedDeclaration g p (dependency d) =
+    (d.end < length g) × AllByRecursion (HasFeature g d.end) d.asks
 ResolvedDeclaration g p (feature f) = AllByRecursion (ResolvedValue g p) f.values
 
 -- the file is no longer than may be, and says no lawful graph
 abbrev pub SaysNone : List ℕ → Type 0
 SaysNone file = (length file ≤ max_bytes) × ((g : Graph) → Says file g → ⊥)
 
--- the file begins with so many records, each with a kind and a body, and the next one begins at this place
+-- the file begins with so many records, each with a kind and a body, and the next one begins at
+-- this place
 pub record Behind (file : List ℕ) (number start : ℕ) : Type 0 where
   pub records : List (ℕ × List ℕ)
   pub rest : List ℕ
@@ -101,14 +109,19 @@ RecordLacks file number start Many = SaysNone file × Behind file number start
 abbrev pub Lacks : List ℕ → List ℕ → FileFault → Type 0
 Lacks file words Size = max_bytes < length file
 Lacks file words (Record x) = RecordLacks file x.number x.start x.fault
-Lacks file words Rows = (g : Graph) × Says file g × ResolvedGraph g × (max_rule_rows < length (rows g))
-Lacks file words Memory = (g : Graph) × Says file g × ResolvedGraph g × (length (rows g) ≤ max_rule_rows) × (length words < head_words + row_width * length (rows g))
+Lacks file words Rows =
+    (g : Graph) × Says file g × ResolvedGraph g × (max_rule_rows < length (rows g))
+Lacks file words Memory =
+    (g : Graph) × Says file g × ResolvedGraph g × (length (rows g) ≤ max_rule_rows)
+    × (length words < head_words + row_width * length (rows g))
 
--- Opening accepts exactly such a file, as that graph, of which there is one, and its words stand in front; where it is
--- refused, what the refusal tells is lacking, and the words are as they were. More may be lacking.
+-- Opening accepts exactly such a file, as that graph, of which there is one, and its words stand in
+-- front; where it is refused, what the refusal tells is lacking, and the words are as they were. More
+-- may be lacking.
 pub record OpeningLaw (file words : List ℕ) (r : Result Opened FileFault) (after : List ℕ) : Type 0 where
   pub sound : (o : Opened) → r ≡ Ok o →
-      (g : Graph) × Opens file words g × (o ≡ opened_counts g (length (encode g))) × (after ≡ over (graph_words g) words)
+      (g : Graph) × Opens file words g × (o ≡ opened_counts g (length (encode g)))
+      × (after ≡ over (graph_words g) words)
   pub complete : (g : Graph) → Opens file words g →
       (r ≡ Ok (opened_counts g (length (encode g)))) × (after ≡ over (graph_words g) words)
   pub once : (g h : Graph) → Says file g → Says file h → g ≡ h
@@ -123,21 +136,29 @@ pub data IsRuleOf (g : Graph) : Rule → Type 0 where
   builds : {p k : ℕ} {d : Dependency} → DependencyAt g p k d →
       IsRuleOf g (record { from = dep p k; with = None; to = unit d.end; lane = Some (lane_of g d); cross = true })
   -- the feature default of its end, if it is wanted and there,
-  defaults : {p k j : ℕ} {d : Dependency} → DependencyAt g p k d → d.defaults ≡ true → NamedAt g d.end j (codes "default") →
+  defaults : {p k j : ℕ} {d : Dependency} → DependencyAt g p k d → d.defaults ≡ true →
+      NamedAt g d.end j (codes "default") →
       IsRuleOf g (record { from = dep p k; with = None; to = feat d.end j; lane = Some (lane_of g d); cross = true })
   -- and the features that it asks for
-  asks : {p k j : ℕ} {d : Dependency} {n : List ℕ} → DependencyAt g p k d → Contains d.asks n → NamedAt g d.end j n →
+  asks : {p k j : ℕ} {d : Dependency} {n : List ℕ} → DependencyAt g p k d →
+      Contains d.asks n → NamedAt g d.end j n →
       IsRuleOf g (record { from = dep p k; with = None; to = feat d.end j; lane = Some (lane_of g d); cross = true })
   -- a plain value turns on a feature of the same package
-  plainly : {p j i : ℕ} {f : Feature} {n : List ℕ} → FeatureAt g p j f → Contains f.values (plain n) → NamedAt g p i n →
+  plainly : {p j i : ℕ} {f : Feature} {n : List ℕ} → FeatureAt g p j f →
+      Contains f.values (plain n) → NamedAt g p i n →
       IsRuleOf g (record { from = feat p j; with = None; to = feat p i; lane = None; cross = false })
   -- a switch or a strong value turns on each optional dependency that it names
-  switches : {p j k : ℕ} {f : Feature} {d : Dependency} {n : List ℕ} → FeatureAt g p j f → Contains f.values (switch n) ⊎ ((x : List ℕ) × Contains f.values (strong n x)) → DependencyAt g p k d → d.name ≡ n → d.optional ≡ true →
+  switches : {p j k : ℕ} {f : Feature} {d : Dependency} {n : List ℕ} → FeatureAt g p j f →
+      Contains f.values (switch n) ⊎ ((x : List ℕ) × Contains f.values (strong n x)) →
+      DependencyAt g p k d → d.name ≡ n → d.optional ≡ true →
       IsRuleOf g (record { from = feat p j; with = None; to = dep p k; lane = Some (lane_of g d); cross = false })
   -- a strong or a weak value, with each dependency that it names, turns on the feature of its end
-  joins : {p j k i : ℕ} {f : Feature} {d : Dependency} {n x : List ℕ} → FeatureAt g p j f → Contains f.values (strong n x) ⊎ Contains f.values (weak n x) → DependencyAt g p k d → d.name ≡ n → NamedAt g d.end i x →
+  joins : {p j k i : ℕ} {f : Feature} {d : Dependency} {n x : List ℕ} → FeatureAt g p j f →
+      Contains f.values (strong n x) ⊎ Contains f.values (weak n x) →
+      DependencyAt g p k d → d.name ≡ n → NamedAt g d.end i x →
       IsRuleOf g (record { from = feat p j; with = Some (dep p k); to = feat d.end i; lane = Some (lane_of g d); cross = true })
 
 -- the rules of a graph are exactly those that stand
 abbrev pub RulesLaw : Graph → Type 0
-RulesLaw g = (ρ : Rule) → (Contains (rules g) ρ → IsRuleOf g ρ) × (IsRuleOf g ρ → Contains (rules g) ρ)
+RulesLaw g =
+    (ρ : Rule) → (Contains (rules g) ρ → IsRuleOf g ρ) × (IsRuleOf g ρ → Contains (rules g) ρ)

@@ -50,13 +50,15 @@ kind_here number packages k =
 abbrev pub if_room : {B : Type 0} → ℕ → ℕ → Result B RecordFault → Result B RecordFault
 if_room n limit r = if nat_le limit n then Err Many else r
 
-abbrev pub as_content : {A : Type 0} → (A → Content) → Result (A × View) RecordFault → Result Content RecordFault
+abbrev pub as_content : {A : Type 0} →
+    (A → Content) → Result (A × View) RecordFault → Result Content RecordFault
 as_content f (Ok p) = Ok (f p.0)
 as_content f (Err e) = Err e
 
 -- a feature's name is new in its package
 abbrev pub new_name : List Key → ℕ → Piece → Field (Unit {0})
-new_name keys owner name v = if has_key owner name.text keys then Err (Twice name.place) else Ok (tt, v)
+new_name keys owner name v =
+    if has_key owner name.text keys then Err (Twice name.place) else Ok (tt, v)
 
 abbrev pub feature_field : List Key → ℕ → Field Feature
 feature_field keys owner =
@@ -69,13 +71,19 @@ feature_field keys owner =
 abbrev pub content_as : Option Kind → Cursor → View → Result Content RecordFault
 content_as None st v = Err Stray
 content_as (Some kind.Header) st v = as_content (λ _. header) (header_field v)
-content_as (Some kind.Package) st v = if_room st.packages max_packages (as_content package_head (package_field v))
-content_as (Some kind.Dependency) st v = if_room st.dependencies max_dependencies (as_content (λ d. declaration (dependency d)) (dependency_field v))
-content_as (Some kind.Feature) st v = if_room (length st.keys) max_features (as_content (λ f. declaration (feature f)) (feature_field st.keys (st.packages - 1) v))
+content_as (Some kind.Package) st v =
+    if_room st.packages max_packages (as_content package_head (package_field v))
+content_as (Some kind.Dependency) st v =
+    if_room st.dependencies max_dependencies
+    (as_content (λ d. declaration (dependency d)) (dependency_field v))
+content_as (Some kind.Feature) st v =
+    if_room (length st.keys) max_features
+    (as_content (λ f. declaration (feature f)) (feature_field st.keys (st.packages - 1) v))
 content_as (Some kind.End) st v = as_content (λ _. end) (closed_field v)
 
 abbrev pub content_of : Cursor → Frame → Result Content RecordFault
-content_of st f = content_as (kind_here st.number st.packages f.kind) st (record { left = f.body; place = 6 })
+content_of st f =
+    content_as (kind_here st.number st.packages f.kind) st (record { left = f.body; place = 6 })
 
 -- a record's fault goes whole into the file's, with the record's number and start
 abbrev pub in_record : Cursor → RecordFault → InRecord
@@ -149,11 +157,18 @@ on_rest f (Err e) = Err e
 -- a record in front of what is left
 abbrev pub with_record : Cursor → ReadRecord → Content → Reading → Reading
 with_record st x header r = r
-with_record st x (package_head h) r = on_rest (λ l. record { declarations = []; packages = record { proc = h.proc; name = h.name; declarations = l.declarations } ∷ l.packages }) r
-with_record st x (declaration p) r = on_rest (λ l. record { declarations = p ∷ l.declarations; packages = l.packages }) r
-with_record st x end r = Ok (record { declarations = []; packages = [] }, st.start + (length x.frame.body + 6))
+with_record st x (package_head h) r =
+    on_rest (λ l. record {
+      declarations = [];
+      packages = record { proc = h.proc; name = h.name; declarations = l.declarations } ∷ l.packages;
+    }) r
+with_record st x (declaration p) r =
+    on_rest (λ l. record { declarations = p ∷ l.declarations; packages = l.packages }) r
+with_record st x end r =
+    Ok (record { declarations = []; packages = [] }, st.start + (length x.frame.body + 6))
 
-abbrev pub after_record : Cursor → (Cursor → List ℕ → Reading) → Result ReadRecord InRecord → Reading
+abbrev pub after_record : Cursor →
+    (Cursor → List ℕ → Reading) → Result ReadRecord InRecord → Reading
 after_record st k (Ok x) = with_record st x x.content (k (cursor_after st x) x.frame.after)
 after_record st k (Err e) = Err (Record e)
 
@@ -175,7 +190,8 @@ graph_in (Err e) = Err e
 
 -- the graph of a file, and how many of its bytes are read
 abbrev pub first_reading : List ℕ → Result (Graph × ℕ) FileFault
-first_reading file = if nat_lt max_bytes (length file) then Err Size else graph_in (scan first_cursor file)
+first_reading file =
+    if nat_lt max_bytes (length file) then Err Size else graph_in (scan first_cursor file)
 
 -- the graph of a file; an empty one if it has none
 abbrev pub graph_or : Result (Graph × ℕ) FileFault → Graph

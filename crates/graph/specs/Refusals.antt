@@ -47,7 +47,13 @@ prefix_in Many = 0
 
 -- the refusal of each fault
 abbrev pub refusal_of : FileFault → Refusal
-refusal_of (Record x) = record { number = number_of x.fault; record_number = x.number; start = x.start; field = field_of x.fault; prefix = prefix_in x.fault }
+refusal_of (Record x) = record {
+  number = number_of x.fault;
+  record_number = x.number;
+  start = x.start;
+  field = field_of x.fault;
+  prefix = prefix_in x.fault;
+}
 refusal_of Size = about_no_record 8
 refusal_of Rows = about_no_record 8
 refusal_of Memory = about_no_record 9

@@ -41,7 +41,9 @@ unless b a = if b then [] else a ∷ []
 
 -- dependency k of package p turns on the feature of a name of its end
 abbrev pub ask_rule : Graph → ℕ → ℕ → Dependency → List ℕ → List Rule
-ask_rule g p k d n = when_some (place_of (features_of g d.end) n) (λ j. record { from = dep p k; with = None; to = feat d.end j; lane = Some (lane_of g d); cross = true })
+ask_rule g p k d n =
+    when_some (place_of (features_of g d.end) n) (λ j.
+    record { from = dep p k; with = None; to = feat d.end j; lane = Some (lane_of g d); cross = true })
 
 -- a dependency: from its owner's unit unless it is optional; to its end's unit, to the end's default if wanted and
 -- there, to each ask
@@ -54,11 +56,14 @@ dependency_rules g p k d =
 
 -- feature j turns on the optional dependency k
 abbrev pub switch_rule : Graph → ℕ → ℕ → ℕ → Dependency → List Rule
-switch_rule g p j k d = when d.optional (record { from = feat p j; with = None; to = dep p k; lane = Some (lane_of g d); cross = false })
+switch_rule g p j k d =
+    when d.optional (record { from = feat p j; with = None; to = dep p k; lane = Some (lane_of g d); cross = false })
 
 -- feature j, with dependency k, turns on the feature of a name of its end
 abbrev pub weak_rule : Graph → ℕ → ℕ → List ℕ → ℕ → Dependency → List Rule
-weak_rule g p j n k d = when_some (place_of (features_of g d.end) n) (λ i. record { from = feat p j; with = Some (dep p k); to = feat d.end i; lane = Some (lane_of g d); cross = true })
+weak_rule g p j n k d =
+    when_some (place_of (features_of g d.end) n) (λ i.
+    record { from = feat p j; with = Some (dep p k); to = feat d.end i; lane = Some (lane_of g d); cross = true })
 
 -- for each dependency of a name
 abbrev pub if_named : List ℕ → (ℕ → Dependency → List Rule) → ℕ → Dependency → List Rule
@@ -66,17 +71,22 @@ if_named n f k d = if bytes_eq d.name n then f k d else []
 
 -- a value of feature j of package p
 abbrev pub value_rules : Graph → ℕ → ℕ → Form (List ℕ) → List Rule
-value_rules g p j (plain n) = when_some (place_of (features_of g p) n) (λ i. record { from = feat p j; with = None; to = feat p i; lane = None; cross = false })
+value_rules g p j (plain n) =
+    when_some (place_of (features_of g p) n) (λ i.
+    record { from = feat p j; with = None; to = feat p i; lane = None; cross = false })
 value_rules g p j (switch n) = each (if_named n (switch_rule g p j)) 0 (dependencies_of g p)
 value_rules g p j (weak n x) = each (if_named n (weak_rule g p j x)) 0 (dependencies_of g p)
-value_rules g p j (strong n x) = each (if_named n (λ k d. switch_rule g p j k d ++ weak_rule g p j x k d)) 0 (dependencies_of g p)
+value_rules g p j (strong n x) =
+    each (if_named n (λ k d. switch_rule g p j k d ++ weak_rule g p j x k d)) 0 (dependencies_of g p)
 
 abbrev pub feature_rules : Graph → ℕ → ℕ → Feature → List Rule
 feature_rules g p j f = flat_map (value_rules g p j) f.values
 
 -- package by package, its dependencies first, then its features
 abbrev pub package_rules : Graph → ℕ → Package → List Rule
-package_rules g p a = each (dependency_rules g p) 0 (dependencies_in a.declarations) ++ each (feature_rules g p) 0 (features_in a.declarations)
+package_rules g p a =
+    each (dependency_rules g p) 0 (dependencies_in a.declarations)
+    ++ each (feature_rules g p) 0 (features_in a.declarations)
 
 abbrev pub rules : Graph → List Rule
 rules g = each (package_rules g) 0 g

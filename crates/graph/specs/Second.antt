@@ -22,7 +22,9 @@ pub record DeclarationPlace : Type 0 where
 
 abbrev pub places_in_package : ℕ → ℕ → ℕ → List Declaration → List DeclarationPlace
 places_in_package number start owner [] = []
-places_in_package number start owner (p ∷ ps) = record { number = number; start = start; owner = owner; declaration = p } ∷ places_in_package (number + 1) (start + length (declaration_bytes p)) owner ps
+places_in_package number start owner (p ∷ ps) =
+    record { number = number; start = start; owner = owner; declaration = p }
+    ∷ places_in_package (number + 1) (start + length (declaration_bytes p)) owner ps
 
 abbrev pub package_record : Package → List ℕ
 package_record a = record_bytes (kind_number kind.Package) (package_body a.proc a.name)
@@ -35,13 +37,15 @@ abbrev pub places_from : ℕ → ℕ → ℕ → Graph → List DeclarationPlace
 places_from number start owner [] = []
 places_from number start owner (a ∷ g) =
     places_in_package (number + 1) (start + length (package_record a)) owner a.declarations
-    ++ places_from ((number + 1) + length a.declarations) ((start + length (package_record a)) + declarations_length a.declarations) (owner + 1) g
+    ++ places_from ((number + 1) + length a.declarations)
+    ((start + length (package_record a)) + declarations_length a.declarations) (owner + 1) g
 
 -- all of a graph, in file order; the header is record 0
 abbrev pub declaration_places : Graph → List DeclarationPlace
 declaration_places g = places_from 1 (length header_bytes) 0 g
 
--- a feature of this name; a dependency of this name; and of each such dependency the end has the feature
+-- a feature of this name; a dependency of this name; and of each such dependency the end has the
+-- feature
 abbrev pub has_feature : List Feature → List ℕ → Bool
 has_feature fs n = is_some (place_of fs n)
 
@@ -58,18 +62,26 @@ ends_have g ds n x = list_all (end_has g n x) ds
 abbrev pub is_resolved : Graph → ℕ → Form (List ℕ) → Bool
 is_resolved g p (plain x) = has_feature (features_of g p) x
 is_resolved g p (switch n) = has_dependency (dependencies_of g p) n
-is_resolved g p (strong n x) = has_dependency (dependencies_of g p) n && ends_have g (dependencies_of g p) n x
-is_resolved g p (weak n x) = has_dependency (dependencies_of g p) n && ends_have g (dependencies_of g p) n x
+is_resolved g p (strong n x) =
+    has_dependency (dependencies_of g p) n && ends_have g (dependencies_of g p) n x
+is_resolved g p (weak n x) =
+    has_dependency (dependencies_of g p) n && ends_have g (dependencies_of g p) n x
 
--- each of some strings passes the test; they begin at a place of their record, each behind its length byte
-abbrev pub check_each : {A : Type 0} → (A → Bool) → (A → ℕ) → ℕ → List A → Result (Unit {0}) RecordFault
+-- each of some strings passes the test; they begin at a place of their record, each behind its
+-- length byte
+abbrev pub check_each : {A : Type 0} →
+    (A → Bool) → (A → ℕ) → ℕ → List A → Result (Unit {0}) RecordFault
 check_each test size at [] = Ok tt
-check_each test size at (x ∷ xs) = if test x then check_each test size ((at + 1) + size x) xs else Err (Unknown (at + 1))
+check_each test size at (x ∷ xs) =
+    if test x then check_each test size ((at + 1) + size x) xs else Err (Unknown (at + 1))
 
--- what a dependency or feature of package p names is there; its asks or values begin after its name and the count
+-- what a dependency or feature of package p names is there; its asks or values begin after its name
+-- and the count
 abbrev pub check_names : Graph → ℕ → Declaration → Result (Unit {0}) RecordFault
-check_names g p (dependency d) = check_each (has_feature (features_of g d.end)) length ((dependency_name_place + length d.name) + 1) d.asks
-check_names g p (feature f) = check_each (is_resolved g p) (λ v. length (spell v)) ((feature_name_place + length f.name) + 1) f.values
+check_names g p (dependency d) =
+    check_each (has_feature (features_of g d.end)) length ((dependency_name_place + length d.name) + 1) d.asks
+check_names g p (feature f) =
+    check_each (is_resolved g p) (λ v. length (spell v)) ((feature_name_place + length f.name) + 1) f.values
 
 -- the end of a dependency is a package
 abbrev pub check_end : Graph → Declaration → Result (Unit {0}) RecordFault
@@ -77,12 +89,14 @@ check_end g (dependency d) = if nat_lt d.end (length g) then Ok tt else Err (Unk
 check_end g (feature f) = Ok tt
 
 -- a record's fault, with the record's number and start, comes before those of the records after it
-abbrev pub or_after : DeclarationPlace → Result (Unit {0}) RecordFault → Result (Unit {0}) InRecord → Result (Unit {0}) InRecord
+abbrev pub or_after : DeclarationPlace →
+    Result (Unit {0}) RecordFault → Result (Unit {0}) InRecord → Result (Unit {0}) InRecord
 or_after x (Ok u) r = r
 or_after x (Err e) r = Err (record { number = x.number; start = x.start; fault = e })
 
 -- the first fault of some records
-abbrev pub check_all : (DeclarationPlace → Result (Unit {0}) RecordFault) → List DeclarationPlace → Result (Unit {0}) InRecord
+abbrev pub check_all :
+    (DeclarationPlace → Result (Unit {0}) RecordFault) → List DeclarationPlace → Result (Unit {0}) InRecord
 check_all test [] = Ok tt
 check_all test (x ∷ xs) = or_after x (test x) (check_all test xs)
 
@@ -93,10 +107,12 @@ abbrev pub check_references : Graph → List DeclarationPlace → Result (Unit {
 check_references g = check_all (λ x. check_names g x.owner x.declaration)
 
 -- one check, and then another
-abbrev pub then_check : Result (Unit {0}) InRecord → Result (Unit {0}) InRecord → Result (Unit {0}) InRecord
+abbrev pub then_check :
+    Result (Unit {0}) InRecord → Result (Unit {0}) InRecord → Result (Unit {0}) InRecord
 then_check (Ok u) r = r
 then_check (Err e) r = Err e
 
 -- all ends, then all asks and feature strings
 abbrev pub second_reading : Graph → Result (Unit {0}) InRecord
-second_reading g = then_check (check_ends g (declaration_places g)) (check_references g (declaration_places g))
+second_reading g =
+    then_check (check_ends g (declaration_places g)) (check_references g (declaration_places g))
