@@ -6,7 +6,8 @@ use records::RecordFault;
 use std::error::Error;
 use std::fmt;
 
-/// The fault of a record, with the record's number, from 0, and the place in the file where it starts.
+/// The fault of a record, with the record's number, from 0, and the place in the file where the
+/// record starts.
 #[derive(Clone, Copy, PartialEq, Eq, Debug)]
 pub struct InRecord {
     pub number: usize,

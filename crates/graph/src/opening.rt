@@ -21,7 +21,10 @@ impl<'a> Filled<'a> {
     // many rows there are, up to one past the limit. With no words it only counts.
     fn write_all(&self, words: &mut [u32]) -> u32
         ensures count { result ≡ min (length (rows (its self.now))) (max_rule_rows + 1) }
-        ensures words { length (rows (its self.now)) ≤ max_rule_rows → head_words + row_width * length (rows (its self.now)) ≤ length words.old → words.new ≡ take head_words words.old ++ (flat_map row_words (rows (its self.now)) ++ drop (head_words + row_width * length (rows (its self.now))) words.old) }
+        ensures words { length (rows (its self.now)) ≤ max_rule_rows →
+            head_words + row_width * length (rows (its self.now)) ≤ length words.old →
+            words.new ≡ take head_words words.old ++ (flat_map row_words (rows (its self.now))
+            ++ drop (head_words + row_width * length (rows (its self.now))) words.old) }
     {
         let mut writer = RowWriter { words, count: 0 };
         self.write_package_rows(&mut writer);
@@ -44,7 +47,8 @@ impl<'a> Filled<'a> {
 
     // The words of the graph, if its rows are few enough and there is room for them.
     fn write_words(&self, words: &mut [u32]) -> Result<Opened, FileFault>
-        ensures answer { result ≡ rows_answer (its self.now) self.now.directory.now.counts.read words.old }
+        ensures answer { result ≡
+            rows_answer (its self.now) self.now.directory.now.counts.read words.old }
         ensures words { words.new ≡ words_after result (its self.now) words.old }
     {
         let rows = self.write_all(&mut []);
