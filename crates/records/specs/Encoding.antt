@@ -4,7 +4,7 @@ use Rattle.std.specs.List.{flat_map, AllByRecursion}
 use Rattle.text.specs.Names.{Name}
 use Rattle.text.specs.Forms.{Form, spell, LawfulForm}
 use Rattle.lanes.specs.EdgeKinds.{edge_kind_number}
-use Rattle.lanes.specs.Lanes.{bit}
+use Rattle.std.specs.Int.{from_bool}
 use Rattle.records.specs.declared.frames.Kind.{Kind}
 use Rattle.records.specs.declared.frames.Kind.TheVariants as kind
 use Rattle.records.specs.Graphs.{Dependency, Feature, Declaration, dependency, feature, Package, Graph}
@@ -42,12 +42,12 @@ value f = string (spell f)
 
 -- proc mark, name
 abbrev pub package_body : Bool → List ℕ → List ℕ
-package_body proc name = (bit proc ∷ []) ++ string name
+package_body proc name = (from_bool proc ∷ []) ++ string name
 
 -- end, edge kind, optional, defaults, name, asks
 abbrev pub dependency_body : Dependency → List ℕ
 dependency_body d =
-    two d.end ++ ((edge_kind_number d.edge ∷ []) ++ ((bit d.optional ∷ []) ++ ((bit d.defaults ∷ [])
+    two d.end ++ ((edge_kind_number d.edge ∷ []) ++ ((from_bool d.optional ∷ []) ++ ((from_bool d.defaults ∷ [])
     ++ (string d.name ++ list_bytes string d.asks))))
 
 -- name, values
