@@ -105,7 +105,14 @@ dependency_field =
     and_then name_text (λ name.
     and_then names_field (λ asks.
     and_then end_field (λ _.
-    give (record { end = end; edge = edge; optional = optional; defaults = defaults; name = name; asks = asks }))))))))
+    give (record {
+      end = end;
+      edge = edge;
+      optional = optional;
+      defaults = defaults;
+      name = name;
+      asks = asks;
+    }))))))))
 
 -- the place of its name: behind the end, the edge kind, both switches and the length byte of the name
 abbrev pub dependency_name_at : ℕ → ℕ

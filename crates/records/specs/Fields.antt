@@ -76,7 +76,10 @@ abbrev pub string_of : List ℕ → ℕ → Result (Piece × View) RecordFault
 string_of [] at = Err (Ragged at)
 string_of (n ∷ bs) at =
     if nat_lt (length bs) n then Err (Ragged at)
-    else Ok (record { place = at + 1; text = take n bs }, record { left = drop n bs; place = (at + 1) + n })
+    else Ok (
+      record { place = at + 1; text = take n bs },
+      record { left = drop n bs; place = (at + 1) + n },
+    )
 
 abbrev pub string_field : Field Piece
 string_field v = string_of v.left v.place

@@ -120,7 +120,8 @@ impl<'a> Reader<'a> {
 
     // So many strings that are each read as a `T`.
     fn each<T: FromPiece<'a>>(&mut self, count: u8) -> Result<(), RecordFault>
-        ensures { outcome result (view self.new) ≡ void (many (text_field T.reading) count) (view self.old) }
+        ensures { outcome result (view self.new)
+            ≡ void (many (text_field T.reading) count) (view self.old) }
     {
         for _i in 0..count {
             self.text::<T>()?;
@@ -130,7 +131,8 @@ impl<'a> Reader<'a> {
 
     // A count byte, and that many strings that are each read as a `T`.
     fn list<T: FromPiece<'a>>(&mut self) -> Result<Strings<'a>, RecordFault>
-        ensures value { outcome_by texts result (view self.new) ≡ list_field (text_field T.reading) (view self.old) }
+        ensures value { outcome_by texts result (view self.new)
+            ≡ list_field (text_field T.reading) (view self.old) }
         ensures full { IfOk result Full }
     {
         let count = self.byte()?;
