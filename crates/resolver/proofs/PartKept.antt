@@ -5,7 +5,7 @@ use Rattle.std.proofs.lemmas.Bool.{cases_lt}
 use Rattle.lanes.specs.declared.lane_numbers.Lane.{Lane}
 use Rattle.records.specs.Graphs.{Graph}
 use Rattle.graph.specs.Opening.{over}
-use Rattle.graph.specs.OpeningLaw.{Resolved, IsRuleOf}
+use Rattle.graph.specs.OpeningLaw.{ResolvedGraph, IsRuleOf}
 use Rattle.graph.specs.Places.{Item, number, item_count}
 use Rattle.graph.specs.Rules.{Rule}
 use Rattle.graph.specs.Words.{graph_words}
@@ -25,7 +25,7 @@ use Rattle.session.specs.SessionLaw.{Active, SessionLaw}
 use Rattle.resolver.specs.Parts.{Agree}
 use Rattle.resolver.specs.PartLaw.{package_of, InPart, target_number, AskedIn, PartKept, OpenedPartLaw}
 use Rattle.resolver.proofs.Simulations.{Decided, told, both, least-simulates}
-use Rattle.resolver.proofs.PartRules.{carry}
+use Rattle.resolver.proofs.PartRules.{counterpart}
 use Rattle.resolver.proofs.PartAgrees.{agree-back, part-back}
 
 -- from the host, no rule leads to the target
@@ -46,7 +46,7 @@ some-held : (P : ℕ → Type 0) (f : Item → ℕ) (m : Option Item) → Held (
 some-held P f None h = tt
 some-held P f (Some x) h = h
 
-module _ (answers : Answers) (lawful : LawfulAnswers answers) (S : ℕ → Bool) (g h : Graph) (resolved : Resolved g) (agree : Agree answers S g h)
+module _ (answers : Answers) (lawful : LawfulAnswers answers) (S : ℕ → Bool) (g h : Graph) (resolved : ResolvedGraph g) (agree : Agree answers S g h)
     (t u : Table) (of : TableOf answers g t) (other : TableOf answers h u) where
   -- the package of an item is in S, and Y has its number in h
   abbrev Shared : (ℕ → Bool) → Item → Type 0
@@ -90,7 +90,7 @@ module _ (answers : Answers) (lawful : LawfulAnswers answers) (S : ℕ → Bool)
     kept-rule closed ρ is_rule leads from with =
         let there = sane g resolved ρ is_rule in
         let (s, y) = kept-item ρ.from there.from from in
-        let c = carry answers S g h agree ρ is_rule leads s in
+        let c = counterpart answers S g h agree ρ is_rule leads s in
         let entry : WatchEntry = record { partner = option_map (target_number h) ρ.with; conclusion = target_number h ρ.to } in
         let (r, q) = other.complete (target_number h ρ.from) entry (record {
           side = Target;
@@ -136,7 +136,7 @@ module _ (answers : Answers) (lawful : LawfulAnswers answers) (S : ℕ → Bool)
       (law.sound (target_number g x) active))
 
 -- for two sessions that keep the law of sessions
-pub part-kept : (answers : Answers) (S : ℕ → Bool) (g h : Graph) (t u : Table) → LawfulAnswers answers → Resolved g → Resolved h →
+pub part-kept : (answers : Answers) (S : ℕ → Bool) (g h : Graph) (t u : Table) → LawfulAnswers answers → ResolvedGraph g → ResolvedGraph h →
     Agree answers S g h → TableOf answers g t → TableOf answers h u →
     (m n : ℕ) (calls others : List Call) → SessionLaw t m calls → SessionLaw u n others → PartKept S g h (history t m calls) (history u n others)
 part-kept answers S g h t u lawful resolved also agree of other m n calls others law second same first last = record {
@@ -148,7 +148,7 @@ part-kept answers S g h t u lawful resolved also agree of other m n calls others
 -- given the law of sessions
 module _ (law : (t : Table) → Laws t → (n : ℕ) (calls : List Call) → SessionLaw t n calls) where
   -- for any tables that are those of the graphs
-  part-law : (answers : Answers) (S : ℕ → Bool) (g h : Graph) (t u : Table) → LawfulAnswers answers → Resolved g → Resolved h →
+  part-law : (answers : Answers) (S : ℕ → Bool) (g h : Graph) (t u : Table) → LawfulAnswers answers → ResolvedGraph g → ResolvedGraph h →
       Agree answers S g h → Laws t → Laws u → TableOf answers g t → TableOf answers h u →
       (m n : ℕ) (calls others : List Call) → PartKept S g h (history t m calls) (history u n others)
   part-law answers S g h t u lawful resolved also agree first second of other m n calls others =
