@@ -3,6 +3,7 @@ use Rattle.std.proofs.Common.{◌≡◌, ℕ, ◌+◌, ◌<◌, ◌≤◌, false
 use Rattle.std.specs.Prelude.{IsTrue, Contains}
 use Rattle.std.proofs.lemmas.Bool.{cases_lt}
 use Rattle.std.proofs.lemmas.List.{length-drop, length-append, take-append-le, drop-append-le}
+use Rattle.std.proofs.lemmas.Option.{IfSome_then}
 use Rattle.rulebook.specs.declared.entries.WatchEntry.{WatchEntry}
 use Rattle.rulebook.specs.declared.entries.RowEntry.{RowEntry}
 use Rattle.rulebook.specs.Tables.{Table, Laws, seek}
@@ -11,7 +12,7 @@ use Rattle.session.specs.Trails.{active}
 use Rattle.session.specs.States.{State, with_trail, with_position}
 use Rattle.session.specs.SessionLaw.{sum_active}
 use Rattle.session.proofs.Seeks.{Bare, First, seek-none, seek-some}
-use Rattle.session.proofs.TrailFacts.{Active, At, Head, active-left, active-cases, active-one, take_next, at-active, at-inside, some_map}
+use Rattle.session.proofs.TrailFacts.{Active, At, Head, active-left, active-cases, active-one, take_next, at-active, at-inside}
 use Rattle.session.proofs.ActiveSums.{total, total-push, total-length, sum_active-push, sum_active-most, sum_active_less}
 use Rattle.session.proofs.EntryCounts.{entries_before, before-moved, before-taken, before-push}
 use Rattle.session.proofs.Derivations.{Derived}
@@ -115,7 +116,7 @@ module _ (table : Table) (laws : Laws table) (asked : List ℕ) (k : ℕ) (s : S
     low = c.low;
     sound = λ i h. ⊎_elim (c.sound i) (λ v. subst (Derived table asked) (active-one x i v) dx) (active-cases s.trail (x ∷ []) i h);
     fired = λ i r e q w a. active-left s.trail (x ∷ []) e.conclusion
-        (c.fired i r e q (was r i w) (some_map (Worked (with_trail s (s.trail ++ x ∷ [])) r) (Worked s r) (was r) e.partner a));
+        (c.fired i r e q (was r i w) (IfSome_then e.partner a (was r)));
     spent = c.spent ∙ sym (before-push table s.trail s.position s.row x c.inside c.fresh);
     whole = λ w. sum_active-push w s.trail x s.items lt off ∙ ap (λ j. j + w x.item) (c.whole w) ∙ sym (total-push w s.trail x);
   }
