@@ -9,7 +9,7 @@ use Rattle.rulebook.specs.declared.entries.RowEntry.{RowEntry}
 use Rattle.rulebook.specs.Tables.{Table, Laws, seek}
 use Rattle.session.specs.declared.trail.TrailRecord.{TrailRecord}
 use Rattle.session.specs.Trails.{active}
-use Rattle.session.specs.States.{State, with_trail, with_position}
+use Rattle.session.specs.States.{State, with_trail, with_position, move_on}
 use Rattle.session.specs.SessionLaw.{sum_active}
 use Rattle.session.proofs.Seeks.{Bare, First, seek-none, seek-some}
 use Rattle.session.proofs.TrailFacts.{Active, At, Head, active-left, active-cases, active-one, take_next, at-active, at-inside}
@@ -51,13 +51,13 @@ head_to t x xs d i h = subst (λ l. Head l i) (sym d) h
 
 module _ (table : Table) (laws : Laws table) (asked : List ℕ) (k : ℕ) (s : State) where
   -- the worked place moves to the next trail item
-  pub moved-core : (x : TrailRecord) (xs : List TrailRecord) → At s x xs → seek table x.item s.row ≡ None → Core table asked k s → Core table asked k (with_position s (s.position + 1) 0)
+  pub moved-core : (x : TrailRecord) (xs : List TrailRecord) → At s x xs → seek table x.item s.row ≡ None → Core table asked k s → Core table asked k (move_on s)
   moved-core x xs d e c = record {
     inside = let h = at-inside s x xs d in omega arith;
     fresh = λ _. refl;
     low = omega arith;
     sound = c.sound;
-    fired = fires-all table laws s (with_position s (s.position + 1) 0) x.item (λ r. s.row ≤ r) (λ i h. h) news (at-active s x xs d)
+    fired = fires-all table laws s (move_on s) x.item (λ r. s.row ≤ r) (λ i h. h) news (at-active s x xs d)
         (λ r y q f a. absurd (no_entry _ y (bare r f (laws.within x.item r y q).1) q))
         c.fired;
     spent = c.spent ∙ sym (ap (λ p. entries_before table s.trail p 0) (add-one s.position) ∙ before-moved table s.trail s.position s.row x xs d c.low bare);
@@ -72,7 +72,7 @@ module _ (table : Table) (laws : Laws table) (asked : List ℕ) (k : ℕ) (s : S
           (active-cases (take s.position s.trail) (x ∷ []) i
           (subst (λ l. IsTrue (active l i)) (ap (λ j. take j s.trail) (add-one s.position) ∙ take_next s.position s.trail x xs d) h))
 
-      news : (r i : ℕ) → Worked (with_position s (s.position + 1) 0) r i → Worked s r i ⊎ ((x.item ≡ i) × (s.row ≤ r))
+      news : (r i : ℕ) → Worked (move_on s) r i → Worked s r i ⊎ ((x.item ≡ i) × (s.row ≤ r))
       news r i (inr h) = absurd (omega (arith, h.1))
       news r i (inl h) = ⊎_elim
           (λ v. inl (inl v))

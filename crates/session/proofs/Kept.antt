@@ -10,7 +10,7 @@ use Rattle.rulebook.specs.declared.entries.RowEntry.{RowEntry}
 use Rattle.rulebook.specs.Tables.{Table, Laws, seek}
 use Rattle.session.specs.declared.trail.TrailRecord.{TrailRecord}
 use Rattle.session.specs.Trails.{request_record, conclusion_record, active, grants, cause_of}
-use Rattle.session.specs.States.{State, with_trail, with_position, request_one, request_all, all_below, take_entry, outcome_of, settle_run, fits}
+use Rattle.session.specs.States.{State, with_trail, with_position, move_on, request_one, request_all, all_below, take_entry, outcome_of, settle_run, fits}
 use Rattle.session.specs.Histories.{Call, request, settle, active as active_call, reason, History, history}
 use Rattle.session.proofs.Pasts.{begun, reported, after_request, after_settle, called, past-history}
 use Rattle.session.proofs.Seeks.{seek-some}
@@ -51,7 +51,7 @@ module _ (table : Table) (laws : Laws table) where
   Settles asked k s = Invariant table asked k s × (table.items ≡ s.items)
 
   moved-keeps : (asked : List ℕ) (k : ℕ) (s : State) (x : TrailRecord) (xs : List TrailRecord) → At s x xs → seek table x.item s.row ≡ None →
-      Settles asked k s → Settles asked k (with_position s (s.position + 1) 0)
+      Settles asked k s → Settles asked k (move_on s)
   moved-keeps asked k s x xs d e v = (record { core = moved-core table laws asked k s x xs d e v.0.core; held = v.0.held }, v.1)
 
   taken-keeps : (asked : List ℕ) (k : ℕ) (s : State) (x : TrailRecord) (xs : List TrailRecord) (f : RowEntry) → At s x xs → seek table x.item s.row ≡ Some f →

@@ -161,7 +161,7 @@ impl Session<'_> {
     ghost use Rattle.rulebook.specs.Tables.{max_rows};
     ghost use Rattle.session.specs.Held.{trail_of, state, Keeps};
     ghost use Rattle.session.specs.Histories.{call_view, call_answer, call_leaves};
-    ghost use Rattle.session.specs.States.{with_trail, with_position, request_one, request_answer, request_leaves, worked_item, conclude, take_entry, settle_answer, settle_leaves};
+    ghost use Rattle.session.specs.States.{with_trail, move_on, request_one, request_answer, request_leaves, worked_item, conclude, take_entry, settle_answer, settle_leaves};
     ghost use Rattle.session.specs.Trails.{active};
 
     // A record of an item that is not active joins the trail.
@@ -232,7 +232,7 @@ impl Session<'_> {
     // On to the next trail item, at row 0.
     fn move_on(&mut self)
         requires { self.old.position < self.old.trail.len }
-        ensures state { state self.new ≡ with_position (state self.old) (self.old.position + 1) 0 }
+        ensures state { state self.new ≡ move_on (state self.old) }
         ensures keeps { Keeps self.old self.new }
     {
         self.position += 1;
