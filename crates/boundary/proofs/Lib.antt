@@ -1,3 +1,3 @@
-pub mod Numbers
+pub mod Runs
 pub mod Writing
-pub mod Told
+pub mod LeastItems

@@ -1,2 +1,2 @@
-pub mod Numbers
+pub mod Calls
 pub mod SettleLaw

@@ -1,4 +1,4 @@
--- What the number of settling is for.
+-- What settling writes.
 use Rattle.std.specs.Prelude.{◌≡◌, ℕ, ◌+◌, List, take}
 use Rattle.policy.specs.Answers.{host_split}
 use Rattle.rulebook.specs.GraphTable.{graph_table}
@@ -6,6 +6,6 @@ use Rattle.session.specs.Least.{OneOf, Least}
 
 -- where the answer is k + 1, the first k words are just the items of the least set of the requests, by the graph book of
 -- the graph words under host-split
-pub record SettleLaw (words requests : List ℕ) (answer : ℕ) (told : List ℕ) : Type 0 where
-  pub sound : (k : ℕ) → answer ≡ k + 1 → (i : ℕ) → OneOf (take k told) i → Least (graph_table host_split words) requests i
-  pub complete : (k : ℕ) → answer ≡ k + 1 → (i : ℕ) → Least (graph_table host_split words) requests i → OneOf (take k told) i
+pub record SettleLaw (words requests : List ℕ) (answer : ℕ) (active : List ℕ) : Type 0 where
+  pub sound : (k : ℕ) → answer ≡ k + 1 → (i : ℕ) → OneOf (take k active) i → Least (graph_table host_split words) requests i
+  pub complete : (k : ℕ) → answer ≡ k + 1 → (i : ℕ) → Least (graph_table host_split words) requests i → OneOf (take k active) i

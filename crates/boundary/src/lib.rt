@@ -1,4 +1,4 @@
-// What programs in other languages call: opening a graph file, and settling what items of it are requested.
+//! What programs in other languages call: opening a graph file, and settling what items of it are requested.
 
 #![tactic(auto)]
 

@@ -1,6 +1,6 @@
 // Settling a graph under host-split.
-ghost use Rattle.std.specs.Prelude.{◌≡◌, ◌≢◌, ℕ, ◌≤◌, ◌<◌, ◌++◌, List, length, drop, IfOk, IfErr};
-ghost use Rattle.boundary.specs.Numbers.{items_of, answer_of, state_of, settled_number, graph_settled};
+ghost use Rattle.std.specs.Prelude.{◌≡◌, ◌≢◌, ◌≤◌, ◌<◌, ◌++◌, length, drop, IfOk, IfErr};
+ghost use Rattle.boundary.specs.Calls.{items_of, request_and_settle_answer, request_and_settle_leaves, report_answer, report_leaves, naiadiron_settle_answer, naiadiron_settle_leaves};
 ghost use Rattle.boundary.specs.SettleLaw.{SettleLaw};
 ghost use Rattle.session.specs.Held.{state, trail_of};
 
@@ -19,8 +19,8 @@ fn request_and_settle<B: Rulebook>(
     requests: &[u32],
     budget: u32,
 ) -> Result<Outcome, SessionFault>
-    ensures answer { result ≡ answer_of (B.Rulebook.table book.now) budget requests.now (state session.old) }
-    ensures state { state session.new ≡ state_of (B.Rulebook.table book.now) budget requests.now (state session.old) }
+    ensures answer { result ≡ request_and_settle_answer (state session.old) (B.Rulebook.table book.now) requests.now budget }
+    ensures state { state session.new ≡ request_and_settle_leaves (state session.old) (B.Rulebook.table book.now) requests.now budget }
 {
     session.request(requests)?;
     session.settle(book, budget)
@@ -36,13 +36,14 @@ fn write_items(trail: &[TrailRecord], active: &mut [u32])
     }
 }
 
-// Writes the active items, if all is settled and there is room for them.
-fn tell(session: &Session<'_>, answer: Result<Outcome, SessionFault>, active: &mut [u32]) -> u64
-    ensures number { ◌≡◌ {A = ℕ × List ℕ} (result, active.new) (settled_number active.old answer (trail_of session.now)) }
+// Writes the active items, if all is settled and there is room for them. The answer is one more than their number, or 0.
+fn report(session: &Session<'_>, outcome: Result<Outcome, SessionFault>, active: &mut [u32]) -> u64
+    ensures answer { result ≡ report_answer (trail_of session.now) outcome active.old }
+    ensures active { active.new ≡ report_leaves (trail_of session.now) outcome active.old }
     ensures below { result < 18446744073709551615 }
 {
     let trail = session.trail();
-    match answer {
+    match outcome {
         Ok(Outcome::Settled(_)) if trail.len() <= active.len() => {
             write_items(trail, active);
             trail.len() as u64 + 1
@@ -59,7 +60,8 @@ fn settle_graph(
     budget: u32,
     active: &mut [u32],
 ) -> Result<u64, AllocError>
-    ensures number { IfOk result (λ n. ◌≡◌ {A = ℕ × List ℕ} (n, active.new) (graph_settled words.now requests.now budget active.old)) }
+    ensures answer { IfOk result (λ n. n ≡ naiadiron_settle_answer words.now requests.now budget active.old) }
+    ensures active { IfOk result (λ n. active.new ≡ naiadiron_settle_leaves words.now requests.now budget active.old) }
     ensures below { IfOk result (λ n. n < 18446744073709551615) }
     ensures no_memory { IfErr result (λ e. active.new ≡ active.old) }
     ensures law { IfOk result (λ n. SettleLaw words.now requests.now n active.new) }
@@ -69,15 +71,15 @@ fn settle_graph(
     let mut places = vec![in heap; UNUSED; items as usize]?;
     let mut marks = vec![in heap; None; items as usize]?;
     let mut session = Session::new(items, places.as_mut_slice(), marks.as_mut_slice());
-    let answer = request_and_settle(&mut session, &book, requests, budget);
-    Ok(tell(&session, answer, active))
+    let outcome = request_and_settle(&mut session, &book, requests, budget);
+    Ok(report(&session, outcome, active))
 }
 
-// Makes the book of graph words under host-split and a session, requests the items, settles, and writes the active
-// items in the order in which they became so. The answer is one more than their number; 0 if a request is refused, the
-// budget was too small or there is too little room; or the number of no memory. A session takes lent memory of types
-// that cannot cross the boundary, so it is allocated here: 28 bytes for each item of either side, filled anew at each
-// call.
+/// Requests items of graph words under host-split, settles, and writes the active items in the order in which they became
+/// active. The answer is one more than their number.
+///
+/// It is 0 if a request is refused, the budget was too small or there is too little room, and the largest `u64` if there is
+/// no memory; nothing is written then. It allocates 28 bytes for each item of either side.
 #[unsafe(no_mangle)]
 pub extern "C" fn naiadiron_settle(
     heap: Global,
@@ -86,7 +88,8 @@ pub extern "C" fn naiadiron_settle(
     budget: u32,
     active: &mut [u32],
 ) -> u64
-    ensures number { result ≢ 18446744073709551615 → ◌≡◌ {A = ℕ × List ℕ} (result, active.new) (graph_settled words.now requests.now budget active.old) }
+    ensures answer { result ≢ 18446744073709551615 → result ≡ naiadiron_settle_answer words.now requests.now budget active.old }
+    ensures active { result ≢ 18446744073709551615 → active.new ≡ naiadiron_settle_leaves words.now requests.now budget active.old }
     ensures no_memory { result ≡ 18446744073709551615 → active.new ≡ active.old }
     ensures law { result ≢ 18446744073709551615 → SettleLaw words.now requests.now result active.new }
 {

@@ -36,8 +36,8 @@ fn request<B: Rulebook>(
 
 // Settles within the budget.
 fn settle<B: Rulebook>(session: &mut Session<'_>, book: &B) -> Result<Outcome, SessionFault>
-    ensures answer { result ≡ settle_answer (B.Rulebook.table book.now) 4 (state session.old) }
-    ensures state { state session.new ≡ settle_leaves (B.Rulebook.table book.now) 4 (state session.old) }
+    ensures answer { result ≡ settle_answer (state session.old) (B.Rulebook.table book.now) 4 }
+    ensures state { state session.new ≡ settle_leaves (state session.old) (B.Rulebook.table book.now) 4 }
 {
     let mut answers = [Answer::Settle(Ok(Outcome::Pending))];
     run_calls(session, book, &[Call::Settle(BUDGET)], &mut answers)?;

@@ -10,11 +10,11 @@ use Rattle.graph.specs.declared.faults.InRecord.{InRecord}
 use Rattle.graph.specs.declared.faults.FileFault.{FileFault}
 use Rattle.graph.specs.declared.faults.FileFault.TheVariants.{Record, Size, Rows, Memory}
 use Rattle.graph.specs.declared.rows.Opened.{Opened}
-use Rattle.graph.specs.Reading.{begin, Reading, scan, graph_in, first_reading}
+use Rattle.graph.specs.Reading.{begin, Reading, scan, graph_in, first_reading, graph_or, graph_of}
 use Rattle.graph.specs.Law.{Says}
 use Rattle.graph.specs.Words.{rows, graph_words}
 use Rattle.graph.specs.Second.{second_reading}
-use Rattle.graph.specs.Opening.{over, opened_as, on_checked, on_graph, words_for, open_graph}
+use Rattle.graph.specs.Opening.{over, opened_counts, after_first, after_second, rows_answer, open_answer, words_after, open_leaves}
 use Rattle.graph.specs.Limits.{max_bytes, max_rule_rows, head_words, row_width}
 use Rattle.graph.specs.OpeningLaw.{SaysNone, Behind, RecordLacks, Lacks, Opens, OpeningLaw}
 use Rattle.graph.proofs.FirstFaults.{Early, first-faults, first-behind}
@@ -23,45 +23,55 @@ use Rattle.graph.proofs.FirstComplete.{first-complete}
 use Rattle.graph.proofs.Telling.{says-one}
 use Rattle.graph.proofs.Resolving.{second-resolved, resolved-second, second-amiss}
 
-module _ (file words : List ℕ) where
-  -- what is answered for a graph of n bytes, after both readings
-  abbrev laid : Graph → ℕ → Result (Opened × List ℕ) FileFault
-  laid g n = words_for g n words
+-- the graph of a file is what its first reading answers
+pub graph-read : (file : List ℕ) (g : Graph) (n : ℕ) → first_reading file ≡ Ok (g, n) → graph_of file ≡ g
+unfolding graph_of
+graph-read file g n e = ap graph_or e
 
-  -- this is the answer for a graph that is to be opened
-  abbrev Answers : Opened → List ℕ → Type 0
-  Answers o ws = (g : Graph) × Opens file words g × (o ≡ opened_as g (length (encode g))) × (ws ≡ over (graph_words g) words)
+module _ (file words : List ℕ) where
+  -- whether the rows of a graph are too many, and whether there is too little room for them
+  abbrev many : Graph → Bool
+  many g = ltb max_rule_rows (length (rows g))
+
+  abbrev short : Graph → Bool
+  short g = ltb (length words) (head_words + row_width * length (rows g))
+
+  -- the answer for a graph of n bytes by these two
+  abbrev answer : Graph → ℕ → Result (Unit {0}) InRecord → Bool → Bool → Result Opened FileFault
+  answer g n r a b = after_second r (cond a (Err Rows) (cond b (Err Memory) (Ok (opened_counts g n))))
 
   -- what the readings and the limits let pass is opened
-  graph-opens : (g : Graph) (n : ℕ) (o : Opened) (ws : List ℕ) → Says file g → n ≡ length (encode g) → on_checked (second_reading g) (laid g n) ≡ Ok (o, ws) → Answers o ws
-  graph-opens g n o ws says m e = go (second_reading g) refl (ltb max_rule_rows (length (rows g))) refl (ltb (length words) (head_words + row_width * length (rows g))) refl e
+  graph-opens : (g : Graph) (n : ℕ) (o : Opened) → Says file g → after_second (second_reading g) (rows_answer g n words) ≡ Ok o → Opens file words g × (o ≡ opened_counts g n)
+  graph-opens g n o says e = go (second_reading g) refl (many g) refl (short g) refl e
     where
-      go : (r : Result (Unit {0}) InRecord) → second_reading g ≡ r → (a : Bool) → ltb max_rule_rows (length (rows g)) ≡ a → (b : Bool) → ltb (length words) (head_words + row_width * length (rows g)) ≡ b → on_checked {A = Opened × List ℕ} r (cond a (Err Rows) (cond b (Err Memory) (Ok (opened_as g n, over (graph_words g) words)))) ≡ Ok (o, ws) → Answers o ws
+      go : (r : Result (Unit {0}) InRecord) → second_reading g ≡ r → (a : Bool) → many g ≡ a → (b : Bool) → short g ≡ b → answer g n r a b ≡ Ok o → Opens file words g × (o ≡ opened_counts g n)
       go (Err x) s a p b q h = absurd (not-both h)
       go (Ok u) s true p b q h = absurd (not-both h)
       go (Ok u) s false p true q h = absurd (not-both h)
-      go (Ok u) s false p false q h =
-          let z : (opened_as g n, over (graph_words g) words) ≡ (o, ws) = in-ok (opened_as g n, over (graph_words g) words) (o, ws) h in (
-            g,
-            record { says = says; resolved = second-resolved g s; few = ltb-false max_rule_rows (length (rows g)) p; room = ltb-false (length words) (head_words + row_width * length (rows g)) q },
-            ap (λ y. y.0) (sym z) ∙ ap (opened_as g) m,
-            ap (λ y. y.1) (sym z),
-          )
+      go (Ok u) s false p false q h = (
+        record { says = says; resolved = second-resolved g s; few = ltb-false max_rule_rows (length (rows g)) p; room = ltb-false (length words) (head_words + row_width * length (rows g)) q },
+        sym (in-ok (opened_counts g n) o h),
+      )
 
-  open-sound : Bytes file → (o : Opened) (ws : List ℕ) → open_graph file words ≡ Ok (o, ws) → Answers o ws
-  open-sound fit o ws e = go (first_reading file) refl e
+  -- where a graph is read and opened, its words stand in front
+  leaves-words : (g : Graph) (n : ℕ) (o : Opened) → first_reading file ≡ Ok (g, n) → open_answer file words ≡ Ok o → open_leaves file words ≡ over (graph_words g) words
+  leaves-words g n o q h = ap (λ r. words_after r (graph_of file) words) h ∙ ap (λ x. over (graph_words x) words) (graph-read file g n q)
+
+  open-sound : Bytes file → (o : Opened) → open_answer file words ≡ Ok o → (g : Graph) × Opens file words g × (o ≡ opened_counts g (length (encode g))) × (open_leaves file words ≡ over (graph_words g) words)
+  open-sound fit o e = go (first_reading file) refl e
     where
-      go : (r : Result (Graph × ℕ) FileFault) → first_reading file ≡ r → on_graph r (λ g n. on_checked (second_reading g) (laid g n)) ≡ Ok (o, ws) → Answers o ws
+      go : (r : Result (Graph × ℕ) FileFault) → first_reading file ≡ r → after_first r (λ g n. after_second (second_reading g) (rows_answer g n words)) ≡ Ok o → (g : Graph) × Opens file words g × (o ≡ opened_counts g (length (encode g))) × (open_leaves file words ≡ over (graph_words g) words)
       go (Err x) q h = absurd (not-both h)
       go (Ok p) q h =
           let s = first-sound file fit p.0 p.1 q in
-          graph-opens p.0 p.1 o ws s.0 s.1 h
+          let z = graph-opens p.0 p.1 o s.0 h in
+          (p.0, z.0, z.1 ∙ ap (opened_counts p.0) s.1, leaves-words p.0 p.1 o q e)
 
   -- and what is to be opened passes
-  open-complete : (g : Graph) → Opens file words g → open_graph file words ≡ Ok (opened_as g (length (encode g)), over (graph_words g) words)
+  open-complete : (g : Graph) → Opens file words g → open_answer file words ≡ Ok (opened_counts g (length (encode g)))
   open-complete g h =
-      ap (λ r. on_graph r (λ x n. on_checked (second_reading x) (laid x n))) (first-complete file g h.says)
-      ∙ ap (λ r. on_checked r (laid g (length (encode g)))) (resolved-second g h.resolved)
+      ap (λ r. after_first r (λ x n. after_second (second_reading x) (rows_answer x n words))) (first-complete file g h.says)
+      ∙ ap (λ r. after_second r (rows_answer g (length (encode g)) words)) (resolved-second g h.resolved)
       ∙ cond-false _ _ _ (le-ltb max_rule_rows (length (rows g)) h.few)
       ∙ cond-false _ _ _ (le-ltb (length words) (head_words + row_width * length (rows g)) h.room)
 
@@ -101,26 +111,31 @@ module _ (file words : List ℕ) where
       let a = second-amiss g x h in
       subst (RecordLacks file x.number x.start) (sym a.5.1) (record { graph = g; says = s; at = a.0; among = a.1; number_is = a.2; start_is = a.3; amiss = a.4 })
 
-  graph-lacks : (g : Graph) (n : ℕ) (e : FileFault) → Says file g → on_checked (second_reading g) (laid g n) ≡ Err e → Lacks file words e
-  graph-lacks g n e s h = go (second_reading g) refl (ltb max_rule_rows (length (rows g))) refl (ltb (length words) (head_words + row_width * length (rows g))) refl h
+  graph-lacks : (g : Graph) (n : ℕ) (e : FileFault) → Says file g → after_second (second_reading g) (rows_answer g n words) ≡ Err e → Lacks file words e
+  graph-lacks g n e s h = go (second_reading g) refl (many g) refl (short g) refl h
     where
-      go : (r : Result (Unit {0}) InRecord) → second_reading g ≡ r → (a : Bool) → ltb max_rule_rows (length (rows g)) ≡ a → (b : Bool) → ltb (length words) (head_words + row_width * length (rows g)) ≡ b → on_checked {A = Opened × List ℕ} r (cond a (Err Rows) (cond b (Err Memory) (Ok (opened_as g n, over (graph_words g) words)))) ≡ Err e → Lacks file words e
+      go : (r : Result (Unit {0}) InRecord) → second_reading g ≡ r → (a : Bool) → many g ≡ a → (b : Bool) → short g ≡ b → answer g n r a b ≡ Err e → Lacks file words e
       go (Err x) q a p b w k = subst (Lacks file words) (in-err _ _ k) (second-lacks g x s q)
       go (Ok u) q true p b w k = subst (Lacks file words) (in-err _ _ k) (g, s, second-resolved g q, ltb-true max_rule_rows (length (rows g)) p)
       go (Ok u) q false p true w k = subst (Lacks file words) (in-err _ _ k) (g, s, second-resolved g q, ltb-false max_rule_rows (length (rows g)) p, ltb-true (length words) (head_words + row_width * length (rows g)) w)
       go (Ok u) q false p false w k = absurd (not-both (sym k))
 
-  open-lacks : Bytes file → (e : FileFault) → open_graph file words ≡ Err e → Lacks file words e
+  open-lacks : Bytes file → (e : FileFault) → open_answer file words ≡ Err e → Lacks file words e
   open-lacks fit e h = go (first_reading file) refl h
     where
-      go : (r : Result (Graph × ℕ) FileFault) → first_reading file ≡ r → on_graph r (λ g n. on_checked (second_reading g) (laid g n)) ≡ Err e → Lacks file words e
+      go : (r : Result (Graph × ℕ) FileFault) → first_reading file ≡ r → after_first r (λ g n. after_second (second_reading g) (rows_answer g n words)) ≡ Err e → Lacks file words e
       go (Err x) q k = first-lacks fit e (q ∙ ap (λ z. Err z) (in-err _ _ k))
       go (Ok p) q k = graph-lacks p.0 p.1 e (first-sound file fit p.0 p.1 q).0 k
 
-pub opening-law : (file words : List ℕ) → Bytes file → (r : Result (Opened × List ℕ) FileFault) → r ≡ open_graph file words → OpeningLaw file words r
-opening-law file words fit r e = record {
-  sound = λ o ws h. open-sound file words fit o ws (sym e ∙ h);
-  complete = λ g h. e ∙ open-complete file words g h;
+-- the law of an opening, from its two equations
+pub opening-law : (file words : List ℕ) → Bytes file → (r : Result Opened FileFault) (after : List ℕ) → r ≡ open_answer file words → after ≡ open_leaves file words → OpeningLaw file words r after
+opening-law file words fit r after e f = record {
+  sound = λ o h.
+      let z = open-sound file words fit o (sym e ∙ h) in
+      (z.0, z.1, z.2, f ∙ z.3);
+  complete = λ g h.
+      let z = open-complete file words g h in
+      (e ∙ z, f ∙ leaves-words file words g _ _ (first-complete file g h.says) z);
   once = says-one file;
-  refused = λ x h. open-lacks file words fit x (sym e ∙ h);
+  refused = λ x h. (open-lacks file words fit x (sym e ∙ h), f ∙ ap (λ q. words_after q (graph_of file) words) (sym e ∙ h));
 }

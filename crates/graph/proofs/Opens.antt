@@ -3,7 +3,6 @@ use Rattle.std.proofs.Common.{◌≡◌, ℕ, ◌+◌, ◌*◌, ◌≤◌, List,
 use Rattle.std.proofs.lemmas.List.{length-append}
 use Rattle.std.specs.List.{flat_map}
 use Rattle.records.specs.Graphs.{Graph}
-use Rattle.records.specs.Encoding.{Bytes}
 use Rattle.graph.specs.declared.faults.InRecord.{InRecord}
 use Rattle.graph.specs.declared.faults.FileFault.{FileFault}
 use Rattle.graph.specs.declared.faults.FileFault.TheVariants.{Record}
@@ -13,22 +12,17 @@ use Rattle.graph.specs.declared.tables.Directory.{Directory}
 use Rattle.graph.specs.Depending.{Indexed}
 use Rattle.graph.specs.Directory.{Tells, ReadAs}
 use Rattle.graph.specs.Law.{Says, dependency_count, feature_count}
-use Rattle.graph.specs.Opening.{over, on_checked, on_graph, words_for, open_graph, leaving, with_words}
-use Rattle.graph.specs.OpeningLaw.{OpeningLaw, RulesLaw}
-use Rattle.graph.specs.Declarations.{graph_or, graph_of}
-use Rattle.graph.specs.Reading.{first_reading}
+use Rattle.graph.specs.Opening.{over, after_first, after_second, rows_answer, open_answer, words_after, open_leaves}
+use Rattle.graph.specs.OpeningLaw.{RulesLaw}
+use Rattle.graph.specs.Reading.{first_reading, graph_of}
 use Rattle.graph.specs.Words.{row_words, rows, graph_words}
 use Rattle.graph.specs.Second.{second_reading}
-use Rattle.graph.proofs.OpenLaw.{opening-law}
+use Rattle.graph.proofs.OpenLaw.{graph-read}
 use Rattle.graph.proofs.RulesStand.{rules-law}
 
-graph-read : (file : List ℕ) (g : Graph) (n : ℕ) → first_reading file ≡ Ok (g, n) → graph_of file ≡ g
-unfolding graph_of
-graph-read file g n e = ap graph_or e
-
 -- a first reading that is refused
-pub first-refused : (file words : List ℕ) (e : FileFault) → first_reading file ≡ Err e → open_graph file words ≡ Err e
-first-refused file words e h = ap (λ r. on_graph r (λ g n. on_checked (second_reading g) (words_for g n words))) h
+pub first-refused : (file words : List ℕ) (e : FileFault) → first_reading file ≡ Err e → open_answer file words ≡ Err e
+first-refused file words e h = ap (λ r. after_first r (λ g n. after_second (second_reading g) (rows_answer g n words))) h
 
 -- one that is accepted
 module _ (file words : List ℕ) (dir : Directory) (read : ReadAs file (Ok tt) dir) where
@@ -44,24 +38,24 @@ module _ (file words : List ℕ) (dir : Directory) (read : ReadAs file (Ok tt) d
   pub named : Indexed dir.named its
   named = subst (Indexed dir.named) (sym graph) read.1.3
 
-  after_first : open_graph file words ≡ on_checked (second_reading (its)) (words_for (its) dir.counts.read words)
-  after_first =
-      ap (λ r. on_graph r (λ g n. on_checked (second_reading g) (words_for g n words))) read.1.1
-      ∙ ap (λ g. on_checked (second_reading g) (words_for g dir.counts.read words)) (sym graph)
+  pub from_second : open_answer file words ≡ after_second (second_reading its) (rows_answer its dir.counts.read words)
+  from_second =
+      ap (λ r. after_first r (λ g n. after_second (second_reading g) (rows_answer g n words))) read.1.1
+      ∙ ap (λ g. after_second (second_reading g) (rows_answer g dir.counts.read words)) (sym graph)
 
-  pub second-refused : (e : InRecord) → Err e ≡ second_reading (its) → open_graph file words ≡ Err (Record e)
-  second-refused e h = after_first ∙ ap (λ r. on_checked r (words_for (its) dir.counts.read words)) (sym h)
+  pub second-refused : (e : InRecord) → Err e ≡ second_reading its → open_answer file words ≡ Err (Record e)
+  second-refused e h = from_second ∙ ap (λ r. after_second r (rows_answer its dir.counts.read words)) (sym h)
 
-  pub both-accept : Ok tt ≡ second_reading (its) → open_graph file words ≡ words_for (its) dir.counts.read words
-  both-accept h = after_first ∙ ap (λ r. on_checked r (words_for (its) dir.counts.read words)) (sym h)
+  pub both-accept : Ok tt ≡ second_reading its → open_answer file words ≡ rows_answer its dir.counts.read words
+  both-accept h = from_second ∙ ap (λ r. after_second r (rows_answer its dir.counts.read words)) (sym h)
 
--- the facts of an opening, from its equation
-with-left : (words : List ℕ) (q : Result (Opened × List ℕ) FileFault) → with_words (leaving words q).0 (leaving words q).1 ≡ q
-with-left words (Ok p) = refl
-with-left words (Err e) = refl
+  -- what is left after an answer, by the graph of the file
+  pub left-by : (r : Result Opened FileFault) (after : List ℕ) → r ≡ open_answer file words → after ≡ words_after r its words → after ≡ open_leaves file words
+  left-by r after e f = f ∙ ap (λ g. words_after r g words) (ap graph_of read.0) ∙ ap (λ q. words_after q (graph_of file) words) e
 
-pub opened-law : (file words : List ℕ) → Bytes file → (r : Result Opened FileFault) (after : List ℕ) → ◌≡◌ {A = Result Opened FileFault × List ℕ} (r, after) (leaving words (open_graph file words)) → OpeningLaw file words (with_words r after)
-opened-law file words fit r after e = opening-law file words fit (with_words r after) (ap (λ p. with_words p.0 p.1) e ∙ with-left words (open_graph file words))
+-- a refusal leaves the words as they were
+pub left-as-they-were : (file words : List ℕ) (e : FileFault) → open_answer file words ≡ Err e → words ≡ open_leaves file words
+left-as-they-were file words e h = ap (λ q. words_after q (graph_of file) words) (sym h)
 
 pub opened-rules : (file : List ℕ) (g : Graph) → Says file g → RulesLaw g
 opened-rules file g s = rules-law g s.lawful

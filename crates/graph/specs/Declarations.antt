@@ -1,14 +1,12 @@
 -- A dependency or feature record, read again.
-use Rattle.std.specs.Prelude.{ℕ, cond, List, [], Some, None, Ok, Err, Option, Result, ◌==◌}
+use Rattle.std.specs.Prelude.{ℕ, cond, List, Some, None, Ok, Err, Option, Result, ◌==◌}
 use Rattle.records.specs.declared.faults.RecordFault.{RecordFault}
 use Rattle.records.specs.declared.frames.Kind.TheVariants as kind
 use Rattle.records.specs.Encoding.{kind_number}
 use Rattle.records.specs.Frames.{Frame, frame_of}
 use Rattle.records.specs.Fields.{View, Field, and_then, give}
 use Rattle.records.specs.Bodies.{name_text, dependency_field, values_field}
-use Rattle.records.specs.Graphs.{Feature, Declaration, dependency, feature, Graph}
-use Rattle.graph.specs.declared.faults.FileFault.{FileFault}
-use Rattle.graph.specs.Reading.{first_reading}
+use Rattle.records.specs.Graphs.{Feature, Declaration, dependency, feature}
 
 -- a feature whose name was found new before
 abbrev pub feature_again : Field Feature
@@ -28,11 +26,3 @@ declaration_as (Err e) = None
 
 abbrev pub declaration_in : List ℕ → Option Declaration
 declaration_in bs = declaration_as (frame_of bs)
-
--- the graph of a file; an empty one if it has none
-abbrev pub graph_or : Result (Graph × ℕ) FileFault → Graph
-graph_or (Ok p) = p.0
-graph_or (Err e) = []
-
-unfoldable pub graph_of : List ℕ → Graph
-graph_of file = graph_or (first_reading file)

@@ -7,10 +7,10 @@ use Rattle.records.specs.Graphs.{dependency, feature, Package, Graph}
 use Rattle.records.specs.Encoding.{encode}
 use Rattle.graph.specs.declared.faults.FileFault.{FileFault}
 use Rattle.graph.specs.declared.faults.FileFault.TheVariants.{Record}
-use Rattle.refusals.specs.Bytes.{byte_of}
+use Rattle.refusals.specs.Refusals.{byte}
 use Rattle.graph.specs.declared.rows.Opened.{Opened}
 use Rattle.graph.specs.Law.{dependency_count, feature_count}
-use Rattle.graph.specs.Opening.{over, open_graph}
+use Rattle.graph.specs.Opening.{over, open_answer, open_leaves}
 use Rattle.graph.specs.Refusals.{refusal_of}
 use Rattle.graph.specs.Words.{none, graph_words}
 
@@ -50,8 +50,8 @@ abbrev pub example : Graph
 example = app (codes "io") ∷ core ∷ gen ∷ []
 
 -- with ip for io in the value of default
-abbrev pub misnamed : Graph
-misnamed = app (codes "ip") ∷ core ∷ gen ∷ []
+abbrev pub typo_example : Graph
+typo_example = app (codes "ip") ∷ core ∷ gen ∷ []
 
 -- the counts of the example; and its words: the counts, then the rows, each from, with, to, lane, cross
 abbrev pub example_opened : Opened
@@ -72,15 +72,16 @@ example_words =
     ∷ 5 ∷ none ∷ 9 ∷ 0 ∷ 1
     ∷ []
 
-abbrev pub misnamed_fault : FileFault
-misnamed_fault = Record (record { number = 4; start = 52; fault = Unknown 16 })
+abbrev pub typo_fault : FileFault
+typo_fault = Record (record { number = 4; start = 52; fault = Unknown 16 })
 
 pub record Examples : Type 0 where
   pub bytes : length (encode example) ≡ 173
   pub items : (length example + dependency_count example) + feature_count example ≡ 10
   pub words : graph_words example ≡ example_words
   pub size : length example_words ≡ 54
-  pub opens : (words : List ℕ) → 54 ≤ length words → open_graph (encode example) words ≡ Ok (example_opened, over example_words words)
-  pub refuses : (words : List ℕ) → open_graph (encode misnamed) words ≡ Err misnamed_fault
-  pub refusal : refusal_of misnamed_fault ≡ record { number = 7; record_number = 4; start = 52; field = 16; prefix = 0 }
-  pub byte : byte_of (refusal_of misnamed_fault) ≡ 68
+  pub opens : (words : List ℕ) → 54 ≤ length words → open_answer (encode example) words ≡ Ok example_opened
+  pub leaves : (words : List ℕ) → 54 ≤ length words → open_leaves (encode example) words ≡ over example_words words
+  pub refuses : (words : List ℕ) → open_answer (encode typo_example) words ≡ Err typo_fault
+  pub refusal : refusal_of typo_fault ≡ record { number = 7; record_number = 4; start = 52; field = 16; prefix = 0 }
+  pub byte : byte (refusal_of typo_fault) ≡ 68

@@ -13,7 +13,7 @@ use Rattle.graph.specs.Law.{Says}
 use Rattle.graph.specs.Places.{unit, dep, feat, dependencies_of, features_of, no_dependency, no_feature}
 use Rattle.graph.specs.Rules.{Rule, lane_of, rules}
 use Rattle.graph.specs.Words.{rows, graph_words}
-use Rattle.graph.specs.Opening.{over, opened_as}
+use Rattle.graph.specs.Opening.{over, opened_counts}
 use Rattle.graph.specs.Second.{DeclarationPlace, declaration_places}
 use Rattle.graph.specs.Limits.{max_bytes, max_rule_rows, head_words, row_width}
 
@@ -109,13 +109,15 @@ Lacks file words (Record x) = RecordLacks file x.number x.start x.fault
 Lacks file words Rows = (g : Graph) × Says file g × Resolved g × (max_rule_rows < length (rows g))
 Lacks file words Memory = (g : Graph) × Says file g × Resolved g × (length (rows g) ≤ max_rule_rows) × (length words < head_words + row_width * length (rows g))
 
--- Opening accepts exactly such a file, as that graph, of which there is one; where it is refused, what the refusal tells is
--- lacking. More may be.
-pub record OpeningLaw (file words : List ℕ) (r : Result (Opened × List ℕ) FileFault) : Type 0 where
-  pub sound : (o : Opened) (ws : List ℕ) → r ≡ Ok (o, ws) → (g : Graph) × Opens file words g × (o ≡ opened_as g (length (encode g))) × (ws ≡ over (graph_words g) words)
-  pub complete : (g : Graph) → Opens file words g → r ≡ Ok (opened_as g (length (encode g)), over (graph_words g) words)
+-- Opening accepts exactly such a file, as that graph, of which there is one, and its words stand in front; where it is
+-- refused, what the refusal tells is lacking, and the words are as they were. More may be lacking.
+pub record OpeningLaw (file words : List ℕ) (r : Result Opened FileFault) (after : List ℕ) : Type 0 where
+  pub sound : (o : Opened) → r ≡ Ok o →
+      (g : Graph) × Opens file words g × (o ≡ opened_counts g (length (encode g))) × (after ≡ over (graph_words g) words)
+  pub complete : (g : Graph) → Opens file words g →
+      (r ≡ Ok (opened_counts g (length (encode g)))) × (after ≡ over (graph_words g) words)
   pub once : (g h : Graph) → Says file g → Says file h → g ≡ h
-  pub refused : (e : FileFault) → r ≡ Err e → Lacks file words e
+  pub refused : (e : FileFault) → r ≡ Err e → Lacks file words e × (after ≡ words)
 
 -- Which rules stand.
 pub data IsRuleOf (g : Graph) : Rule → Type 0 where

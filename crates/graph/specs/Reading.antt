@@ -175,3 +175,11 @@ graph_in (Err e) = Err e
 -- the graph of a file, and how many of its bytes are read
 abbrev pub first_reading : List ℕ → Result (Graph × ℕ) FileFault
 first_reading file = cond (nat_lt max_bytes (length file)) (Err Size) (graph_in (scan begin file))
+
+-- the graph of a file; an empty one if it has none
+abbrev pub graph_or : Result (Graph × ℕ) FileFault → Graph
+graph_or (Ok p) = p.0
+graph_or (Err e) = []
+
+unfoldable pub graph_of : List ℕ → Graph
+graph_of file = graph_or (first_reading file)

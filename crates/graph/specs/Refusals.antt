@@ -7,7 +7,7 @@ use Rattle.records.specs.declared.faults.RecordFault.TheVariants.{Cut, Stray, Ma
 use Rattle.graph.specs.declared.faults.FileFault.{FileFault}
 use Rattle.graph.specs.declared.faults.FileFault.TheVariants.{Record, Size, Rows, Memory}
 use Rattle.refusals.specs.declared.Refusal.{Refusal}
-use Rattle.refusals.specs.Bytes.{about_no_record}
+use Rattle.refusals.specs.Refusals.{about_no_record}
 
 -- the place in a string
 abbrev pub prefix_of : StringFault → ℕ

@@ -13,7 +13,8 @@ use Rattle.graph.specs.Directory.{no_place}
 use Rattle.graph.specs.declared.rules.Premises.{Premises}
 use Rattle.graph.specs.declared.rules.Link.{Link}
 use Rattle.graph.specs.declared.rules.Link.TheVariants.{Switch, Strong, Weak}
-use Rattle.graph.specs.Declarations.{graph_of, declaration_in}
+use Rattle.graph.specs.Declarations.{declaration_in}
+use Rattle.graph.specs.Reading.{graph_of}
 use Rattle.graph.specs.Places.{dep, feat, dependencies_of, features_of, number}
 use Rattle.graph.specs.Second.{DeclarationPlace}
 use Rattle.graph.specs.Rules.{lane_of, place_of, when_some, when, unless, each}

@@ -1,7 +1,7 @@
 // A directory whose tables are filled: they tell the graph of its file, and its dependencies are in the index of them.
 ghost use Rattle.graph.specs.Depending.{Indexed};
 ghost use Rattle.graph.specs.Directory.{Tells};
-ghost use Rattle.graph.specs.Declarations.{graph_of};
+ghost use Rattle.graph.specs.Reading.{graph_of};
 
 use crate::tables::Directory;
 

@@ -1,13 +1,11 @@
 // Opening a graph file: both readings, then its rule rows.
-ghost use Rattle.std.specs.Prelude.{◌≡◌, ℕ, ◌+◌, ◌*◌, ◌≤◌, min, List, ◌++◌, length, take, drop, Result};
+ghost use Rattle.std.specs.Prelude.{◌≡◌, ℕ, ◌+◌, ◌*◌, ◌≤◌, min, ◌++◌, length, take, drop};
 ghost use Rattle.std.specs.List.{flat_map};
 ghost use Rattle.records.specs.Graphs.{Graph};
-ghost use Rattle.graph.specs.declared.faults.FileFault.{FileFault};
-ghost use Rattle.graph.specs.declared.rows.Opened.{Opened};
 ghost use Rattle.graph.specs.Law.{Says};
 ghost use Rattle.graph.specs.Limits.{max_rule_rows, head_words, row_width};
 ghost use Rattle.graph.specs.RowLists.{its};
-ghost use Rattle.graph.specs.Opening.{over, opened_as, words_for, open_graph, leaving, with_words};
+ghost use Rattle.graph.specs.Opening.{over, rows_answer, words_after, open_answer, open_leaves};
 ghost use Rattle.graph.specs.OpeningLaw.{OpeningLaw, RulesLaw};
 ghost use Rattle.graph.specs.Words.{row_words, rows, graph_words};
 
@@ -46,7 +44,8 @@ impl<'a> Filled<'a> {
 
     // The words of the graph, if its rows are few enough and there is room for them.
     fn write_words(&self, words: &mut [u32]) -> Result<Opened, FileFault>
-        ensures { ◌≡◌ {A = Result Opened FileFault × List ℕ} (result, words.new) (leaving words.old (words_for (its self.now) self.now.directory.now.counts.read words.old)) }
+        ensures answer { result ≡ rows_answer (its self.now) self.now.directory.now.counts.read words.old }
+        ensures words { words.new ≡ words_after result (its self.now) words.old }
     {
         let rows = self.write_all(&mut []);
         if rows > MAX_RULE_ROWS {
@@ -73,8 +72,9 @@ impl<'a> Filled<'a> {
 /// A file is refused whose records are out of order or not well formed, that refers to what is not there, or that is
 /// beyond a limit; and words that do not suffice. A refusal writes nothing.
 pub fn open_graph(file: &[u8], words: &mut [u32]) -> Result<Opened, FileFault>
-    ensures opened { ◌≡◌ {A = Result Opened FileFault × List ℕ} (result, words.new) (leaving words.old (open_graph file.now words.old)) }
-    ensures law { OpeningLaw file.now words.old (with_words result words.new) }
+    ensures answer { result ≡ open_answer file.now words.old }
+    ensures words { words.new ≡ open_leaves file.now words.old }
+    ensures law { OpeningLaw file.now words.old result words.new }
     ensures rules { (g : Graph) → Says file.now g → RulesLaw g }
 {
     let mut directory = Directory::new(file);

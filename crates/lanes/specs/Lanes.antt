@@ -1,30 +1,36 @@
--- Lanes by number: edge kind + 3 × proc mark.
-use Rattle.std.specs.Prelude.{ℕ, ◌+◌, ◌*◌, ◌/◌, ◌%◌, Bool, true, false, cond, Some, None, Option, ◌==◌, nat_lt}
-use Rattle.lanes.specs.declared.edge_kinds.EdgeKind.{EdgeKind}
-use Rattle.lanes.specs.declared.edge_kinds.EdgeKind.TheVariants.{Normal, Build, Dev}
+-- Lanes by number: the edge kind is the lowest digit, the mark of a procedural macro the next.
+use Rattle.std.specs.Prelude.{ℕ, ◌+◌, ◌*◌, ◌/◌, ◌%◌, Some, None, Option, Bool, ◌==◌, nat_lt, unwrap_or, if◌then◌else◌}
+use Rattle.std.specs.Int.{from_bool}
+use Rattle.lanes.specs.declared.edge_kinds.EdgeKind.TheVariants.{Normal}
 use Rattle.lanes.specs.declared.lane_numbers.Lane.{Lane}
 use Rattle.lanes.specs.declared.lane_numbers.UnknownLane.{UnknownLane}
-use Rattle.lanes.specs.EdgeKinds.{edge_kinds, edge_kind_number}
-
--- how many lanes there are
-abbrev pub lanes : ℕ
-lanes = 6
+use Rattle.lanes.specs.EdgeKinds.{edge_kinds, edge_kind_number, edge_kind_at}
 
 -- a mark as a number
 abbrev pub bit : Bool → ℕ
-bit false = 0
-bit true = 1
+bit b = from_bool b
+
+-- how many values a mark has
+abbrev pub marks : ℕ
+marks = 2
+
+-- how many lanes there are
+abbrev pub lanes : ℕ
+lanes = edge_kinds * marks
 
 abbrev pub lane_number : Lane → ℕ
-lane_number l = edge_kind_number l.edge + edge_kinds * bit l.procedural
+lane_number l = edge_kind_number l.edge + edge_kinds * from_bool l.procedural
 
--- the edge kind of a number below 3
-abbrev pub edge_kind_below_3 : ℕ → EdgeKind
-edge_kind_below_3 n = cond (n == 0) Normal (cond (n == 1) Build Dev)
+-- the lane whose digits are the lowest ones of a number
+abbrev pub lane_of : ℕ → Lane
+lane_of n = record {
+  edge = unwrap_or (edge_kind_at (n % edge_kinds)) Normal;
+  procedural = ((n / edge_kinds) % marks == 1);
+}
 
 -- the lane of a number, if it has one
 abbrev pub lane_at : ℕ → Option Lane
-lane_at n = cond (nat_lt n lanes) (Some (record { edge = edge_kind_below_3 (n % edge_kinds); procedural = (n / edge_kinds == 1) })) None
+lane_at n = if nat_lt n lanes then Some (lane_of n) else None
 
 -- the number is no lane's
 abbrev pub unknown_lane : ℕ → UnknownLane

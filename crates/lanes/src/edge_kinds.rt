@@ -5,7 +5,7 @@ ghost use Rattle.lanes.specs.EdgeKinds.{edge_kind_number, edge_kind_at, unknown_
 /// How many edge kinds there are.
 pub const EDGE_KINDS: u32 = 3;
 
-/// What a dependency is for.
+/// What a dependency is for. The kinds are numbered from 0 in this order.
 #[derive(Clone, Copy, PartialEq, Eq, Debug)]
 pub enum EdgeKind {
     /// What its owner needs when it runs.
@@ -20,6 +20,15 @@ pub enum EdgeKind {
 #[derive(Clone, Copy, PartialEq, Eq, Debug)]
 pub struct UnknownEdgeKind(pub u8);
 
+impl EdgeKind {
+    // Every edge kind, each at the place of its number.
+    pub(crate) const BY_NUMBER: [EdgeKind; EDGE_KINDS as usize] = [
+        EdgeKind::Normal,
+        EdgeKind::Build,
+        EdgeKind::Dev,
+    ];
+}
+
 /// The edge kind of a byte: 0 normal, 1 build, 2 dev; no other byte has one.
 impl TryFrom<u8> for EdgeKind {
     type Error = UnknownEdgeKind;
@@ -27,24 +36,18 @@ impl TryFrom<u8> for EdgeKind {
     ghost try_from_gives = { λ byte r. r ≡ ok_or (edge_kind_at byte) (unknown_edge_kind byte) };
 
     fn try_from(byte: u8) -> Result<EdgeKind, UnknownEdgeKind> {
-        match byte {
-            0 => Ok(EdgeKind::Normal),
-            1 => Ok(EdgeKind::Build),
-            2 => Ok(EdgeKind::Dev),
-            _ => Err(UnknownEdgeKind(byte)),
-        }
+        EdgeKind::BY_NUMBER
+            .get(usize::from(byte))
+            .copied()
+            .ok_or(UnknownEdgeKind(byte))
     }
 }
 
-/// The number of an edge kind, by the same table.
+/// The number of an edge kind.
 impl From<EdgeKind> for u32 {
     ghost from_gives = { λ kind n. n ≡ edge_kind_number kind };
 
     fn from(kind: EdgeKind) -> u32 {
-        match kind {
-            EdgeKind::Normal => 0,
-            EdgeKind::Build => 1,
-            EdgeKind::Dev => 2,
-        }
+        kind as u32
     }
 }

@@ -1,11 +1,15 @@
 // Lanes, and their numbers.
-ghost use Rattle.std.specs.Prelude.{◌≡◌, ok_or};
-ghost use Rattle.lanes.specs.Lanes.{edge_kind_below_3, lane_at, lane_number, unknown_lane};
+ghost use Rattle.std.specs.Prelude.{◌≡◌, Some, ok_or, slice_get};
+ghost use Rattle.lanes.specs.Lanes.{lane_of, lane_at, lane_number, unknown_lane};
 
 use crate::edge_kinds::{EDGE_KINDS, EdgeKind};
+use std::array;
+
+// How many values a mark has.
+const MARKS: u32 = 2;
 
 /// How many lanes there are.
-pub const LANES: u32 = 6;
+pub const LANES: u32 = EDGE_KINDS * MARKS;
 
 /// What a policy looks at in a dependency: its edge kind, and whether its end is a procedural macro.
 #[derive(Clone, Copy, PartialEq, Eq, Debug)]
@@ -16,11 +20,20 @@ pub struct Lane {
     pub procedural: bool,
 }
 
+impl Lane {
+    /// Every lane, each at the place of its number.
+    pub fn all() -> [Lane; LANES as usize]
+        ensures { (lane : Lane) → slice_get result (lane_number lane) ≡ Some lane }
+    {
+        array::from_fn(|number| lane_of(number as u32))
+    }
+}
+
 /// A number that no lane has.
 #[derive(Clone, Copy, PartialEq, Eq, Debug)]
 pub struct UnknownLane(pub u32);
 
-/// The number of a lane: its edge kind's, and 3 more for a procedural macro.
+/// The number of a lane, from 0 to `LANES - 1`: its digits are the edge kind and the mark, the lowest first.
 impl From<Lane> for u32 {
     ghost from_gives = { λ lane n. n ≡ lane_number lane };
 
@@ -29,18 +42,17 @@ impl From<Lane> for u32 {
     }
 }
 
-// The edge kind of a number below 3: `TryFrom` would only add an error that never comes.
-fn edge_kind_below_3(number: u32) -> EdgeKind
-    ensures { result ≡ edge_kind_below_3 number }
+// The lane whose digits are the lowest ones of a number.
+fn lane_of(number: u32) -> Lane
+    ensures { result ≡ lane_of number }
 {
-    match number {
-        0 => EdgeKind::Normal,
-        1 => EdgeKind::Build,
-        _ => EdgeKind::Dev,
+    Lane {
+        edge: EdgeKind::BY_NUMBER[(number % EDGE_KINDS) as usize],
+        procedural: number / EDGE_KINDS % MARKS == 1,
     }
 }
 
-/// The lane of a number below 6; no other number has one.
+/// The lane of a number below `LANES`; no other number has one.
 impl TryFrom<u32> for Lane {
     type Error = UnknownLane;
 
@@ -50,9 +62,6 @@ impl TryFrom<u32> for Lane {
         if number >= LANES {
             return Err(UnknownLane(number));
         }
-        Ok(Lane {
-            edge: edge_kind_below_3(number % EDGE_KINDS),
-            procedural: number / EDGE_KINDS == 1,
-        })
+        Ok(lane_of(number))
     }
 }

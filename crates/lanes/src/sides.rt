@@ -5,7 +5,8 @@ ghost use Rattle.lanes.specs.Sides.{side_at, side_number, unknown_side};
 /// How many sides there are.
 pub const SIDES: u32 = 2;
 
-/// The side for which something is built: what is delivered runs on the target, the build itself on the host.
+/// The side for which something is built: what is delivered runs on the target, the build itself on the host. The sides
+/// are numbered from 0 in this order.
 #[derive(Clone, Copy, PartialEq, Eq, Debug)]
 pub enum Side {
     /// What the build is for.
@@ -18,15 +19,17 @@ pub enum Side {
 #[derive(Clone, Copy, PartialEq, Eq, Debug)]
 pub struct UnknownSide(pub u32);
 
+impl Side {
+    // Every side, each at the place of its number.
+    const BY_NUMBER: [Side; SIDES as usize] = [Side::Target, Side::Host];
+}
+
 /// The number of a side: 0 target, 1 host.
 impl From<Side> for u32 {
     ghost from_gives = { λ side n. n ≡ side_number side };
 
     fn from(side: Side) -> u32 {
-        match side {
-            Side::Target => 0,
-            Side::Host => 1,
-        }
+        side as u32
     }
 }
 
@@ -37,10 +40,9 @@ impl TryFrom<u32> for Side {
     ghost try_from_gives = { λ n r. r ≡ ok_or (side_at n) (unknown_side n) };
 
     fn try_from(number: u32) -> Result<Side, UnknownSide> {
-        match number {
-            0 => Ok(Side::Target),
-            1 => Ok(Side::Host),
-            _ => Err(UnknownSide(number)),
-        }
+        Side::BY_NUMBER
+            .get(number as usize)
+            .copied()
+            .ok_or(UnknownSide(number))
     }
 }

@@ -6,19 +6,20 @@ ghost use Rattle.policy.specs.Answers.{LawfulAnswers, answer_by_number};
 
 use lanes::{Lane, Side};
 
-// A policy is what it answers for each lane and side, asked apart: a struct of both would be built at each call and
-// taken apart in each policy. Its law: from the host, no lane leads to the target.
+/// A separation policy: for each lane and side, on which side the end of a dependency is built.
+///
+/// Its law: from the host, no lane leads to the target.
 pub trait Policy {
     ghost answers: { Self → Lane → Side → Option Side };
 
-    // Where a lane leads from a side; a cut lane leads nowhere.
+    /// Where a lane leads from a side; a cut lane leads nowhere.
     fn leads(&self, lane: Lane, side: Side) -> Option<Side>
         ensures { result ≡ answers self.now lane side };
 
     ghost lawful: { (p : Self) → LawfulAnswers (answers p) };
 }
 
-// Where the lane of a number leads from the side of a number: nowhere, if one of them is no such number.
+/// Where the lane of a number leads from the side of a number; nowhere, if there is no such lane or side.
 pub fn answer<P: Policy>(policy: &P, lane: u32, side: u32) -> Option<Side>
     ensures { result ≡ answer_by_number (P.Policy.answers policy.now) lane side }
 {

@@ -5,9 +5,10 @@ ghost use Rattle.std.proofs.Common.{rules};
 use crate::answers::Policy;
 use lanes::{EdgeKind, Lane, Side};
 
-// Dev dependencies are cut; all else is as the policy below answers.
+/// Dev dependencies are cut; all else is as the policy below answers.
 #[derive(Clone, Copy, PartialEq, Eq, Debug)]
 pub struct DevCut<P> {
+    /// the policy that is asked for all other dependencies
     pub below: P,
 }
 

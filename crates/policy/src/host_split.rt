@@ -5,7 +5,7 @@ ghost use Rattle.std.proofs.Common.{rules};
 use crate::answers::Policy;
 use lanes::{EdgeKind, Lane, Side};
 
-// From the target, build dependencies and procedural macros lead to the host; all else stays on its side.
+/// From the target, build dependencies and procedural macros lead to the host; all else stays on its side.
 #[derive(Clone, Copy, PartialEq, Eq, Debug)]
 pub struct HostSplit;
 

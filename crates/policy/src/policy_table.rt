@@ -5,7 +5,7 @@ ghost use Rattle.lanes.specs.Lanes.{lane_number};
 ghost use Rattle.lanes.specs.declared.sides.Side.{Side};
 ghost use Rattle.policy.specs.Answers.{answers_of};
 
-use crate::answers::{Policy, answer};
+use crate::answers::Policy;
 use lanes::{LANES, Lane, SIDES, Side};
 use std::array;
 
@@ -20,7 +20,8 @@ pub struct PolicyTable {
 fn leads_from<P: Policy>(policy: &P, side: Side) -> [Option<Side>; LANES as usize]
     ensures { (lane : Lane) → slice_index_or result (lane_number lane) None ≡ P.Policy.answers policy.now lane side }
 {
-    array::from_fn(|lane| answer(policy, lane as u32, side.into()))
+    let lanes = Lane::all();
+    array::from_fn(|number| policy.leads(lanes[number], side))
 }
 
 impl PolicyTable {

@@ -5,7 +5,7 @@ ghost use Rattle.std.proofs.Common.{rules};
 use crate::answers::Policy;
 use lanes::{Lane, Side};
 
-// Each side leads to itself.
+/// Each side leads to itself: nothing is separated, and nothing is cut.
 #[derive(Clone, Copy, PartialEq, Eq, Debug)]
 pub struct Unified;
 

@@ -6,7 +6,7 @@ ghost use Rattle.records.specs.Frames.{kind_at, frame, frame_of};
 
 use crate::faults::RecordFault;
 
-// The kinds of records.
+/// The kinds of records, by number in a file: 1 header, 2 package, 3 dependency, 4 feature, 5 end.
 #[derive(Clone, Copy, PartialEq, Eq, Debug)]
 pub enum Kind {
     Header,
@@ -33,16 +33,19 @@ impl TryFrom<u16> for Kind {
     }
 }
 
-// A record's kind, its body, and the bytes after it. The kind is the number as it stands: which kinds there are, and
-// which may stand here, is asked after the frame.
+/// A record cut from the bytes that it begins.
 #[derive(Clone, Copy)]
 pub struct Frame<'a> {
+    /// its kind, as a number that may stand for none
     pub kind: u16,
+    /// its fields
     pub body: &'a [u8],
+    /// what comes after it
     pub after: &'a [u8],
 }
 
-// The record at the front of some bytes.
+/// The record at the front of some bytes: its length in four bytes, which counts what follows, its kind in two, and its
+/// body. Bytes that end before the record does are refused, and so is a length below 2.
 pub fn first_frame<'a>(bytes: &'a [u8]) -> Result<Frame<'a>, RecordFault>
     ensures { map_ok frame result ≡ frame_of bytes.now }
 {

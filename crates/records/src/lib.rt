@@ -1,13 +1,14 @@
-//! Records: the pieces that a graph file is made of, and the reading of their fields.
+//! Records: what a graph file is made of, and the reading of their fields.
 
 #![tactic(auto)]
 
 mod bodies;
 mod faults;
-mod fields;
 mod frames;
+mod from_piece;
 mod reader;
 mod strings;
+mod version;
 
 pub use bodies::{Dependency, Feature, Package};
 pub use faults::{InField, RecordFault};

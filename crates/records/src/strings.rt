@@ -1,9 +1,12 @@
-// A list of strings in a record.
+// Lists of strings in a record.
 
-// So many strings, one after the other, from the beginning of some bytes on.
+/// A list of strings in a record, by its bytes: each string is one length byte and that many bytes. As an iterator it
+/// gives the strings in order.
 #[derive(Clone, Copy)]
 pub struct Strings<'a> {
+    /// how many strings are left
     pub count: u8,
+    /// the bytes that the first of them begins
     pub bytes: &'a [u8],
 }
 

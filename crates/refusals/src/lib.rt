@@ -1,13 +1,15 @@
-//! What a refused call tells: a number of the table of refusals, a record and three places.
+//! What a refused call tells: a number from the table of refusals, a record, and three places.
 
 #![tactic(auto)]
 
 ghost use Rattle.std.specs.Prelude.{◌≡◌};
-ghost use Rattle.refusals.specs.Bytes.{about_no_record, byte_shown};
+ghost use Rattle.refusals.specs.Refusals.{about_no_record, byte};
 
+use std::error::Error;
 use std::fmt;
 
-/// What a refused call tells. What does not apply is 0.
+/// What a refused call tells: its number, and where a file is at fault. All places are counted in bytes, from 0; what
+/// does not apply is 0.
 ///
 /// It prints as `refused N record R byte B`.
 #[derive(Clone, Copy, PartialEq, Eq, Debug)]
@@ -40,7 +42,7 @@ impl Refusal {
 
     /// The place in the file: the sum of the three places, or the largest `usize` if that is beyond it.
     pub fn byte(&self) -> usize
-        ensures { result ≡ byte_shown self.now }
+        ensures { result ≡ byte self.now }
     {
         self.start
             .saturating_add(self.field)
@@ -59,3 +61,5 @@ impl fmt::Display for Refusal {
         write!(f, "refused {number} record {record_number} byte {byte}")
     }
 }
+
+impl Error for Refusal {}

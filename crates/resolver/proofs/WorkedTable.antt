@@ -1,12 +1,10 @@
 -- The worked examples, over the definitions.
-use Rattle.std.proofs.Common.{◌≡◌, ℕ, List, ◌++◌, length, drop, Ok, Result, refl, sym, ap, ◌∙◌, lit<, arith}
+use Rattle.std.proofs.Common.{◌≡◌, ℕ, List, ◌++◌, length, drop, refl, sym, ap, ◌∙◌, lit<, arith}
 use Rattle.std.proofs.lemmas.List.{append-nil}
 use Rattle.std.proofs.Math.Seq.{drop-length}
 use Rattle.records.specs.Encoding.{encode}
-use Rattle.graph.specs.declared.faults.FileFault.{FileFault}
-use Rattle.graph.specs.declared.rows.Opened.{Opened}
-use Rattle.graph.specs.Examples.{example, example_opened, example_words}
-use Rattle.graph.specs.Opening.{over, leaving, open_graph}
+use Rattle.graph.specs.Examples.{example, example_words}
+use Rattle.graph.specs.Opening.{open_leaves}
 use Rattle.rulebook.specs.Tables.{Table}
 use Rattle.session.specs.Causes.{by_two}
 use Rattle.session.specs.States.{State, settle_run, request_leaves, settle_answer, settle_leaves}
@@ -43,25 +41,23 @@ worked-examples = record {
 
 -- the states after the request, and after 3, 7 and 1 steps more
 pub worked-states : (t : Table) (start asked soon nearly end : State) → t ≡ example_table → start ≡ new_session →
-    asked ≡ request_leaves start example_items → soon ≡ settle_leaves t 3 asked → nearly ≡ settle_leaves t 7 soon → end ≡ settle_leaves t 1 nearly →
+    asked ≡ request_leaves start example_items → soon ≡ settle_leaves asked t 3 → nearly ≡ settle_leaves soon t 7 → end ≡ settle_leaves nearly t 1 →
     (asked ≡ example_asked)
-    × (soon ≡ (settle_run example_table 3 example_asked).state)
-    × (nearly ≡ (settle_run example_table 10 example_asked).state)
-    × (end ≡ (settle_run example_table 11 example_asked).state)
+    × (soon ≡ (settle_run example_asked example_table 3).state)
+    × (nearly ≡ (settle_run example_asked example_table 10).state)
+    × (end ≡ (settle_run example_asked example_table 11).state)
 worked-states t start asked soon nearly end e s a b d f =
     let p : asked ≡ example_asked = a ∙ ap (λ u. request_leaves u example_items) s in
-    let q : soon ≡ (settle_run example_table 3 example_asked).state = b ∙ ap (λ v. settle_leaves v 3 asked) e ∙ ap (settle_leaves example_table 3) p in
-    let r : nearly ≡ (settle_run example_table 10 example_asked).state = d ∙ ap (λ v. settle_leaves v 7 soon) e ∙ ap (settle_leaves example_table 7) q in
-    let z : end ≡ (settle_run example_table 11 example_asked).state = f ∙ ap (λ v. settle_leaves v 1 nearly) e ∙ ap (settle_leaves example_table 1) r in
+    let q : soon ≡ (settle_run example_asked example_table 3).state = b ∙ ap (λ v. settle_leaves asked v 3) e ∙ ap (λ u. settle_leaves u example_table 3) p in
+    let r : nearly ≡ (settle_run example_asked example_table 10).state = d ∙ ap (λ v. settle_leaves soon v 7) e ∙ ap (λ u. settle_leaves u example_table 7) q in
+    let z : end ≡ (settle_run example_asked example_table 11).state = f ∙ ap (λ v. settle_leaves nearly v 1) e ∙ ap (λ u. settle_leaves u example_table 1) r in
     (p, q, r, z)
 
 -- an answer of settle by the table of the example, in a state that is known
-pub settle-known : (t : Table) (b : ℕ) (s u : State) → t ≡ example_table → s ≡ u → settle_answer t b s ≡ settle_answer example_table b u
-settle-known t b s u e f = ap (λ v. settle_answer v b s) e ∙ ap (settle_answer example_table b) f
+pub settle-known : (t : Table) (b : ℕ) (s u : State) → t ≡ example_table → s ≡ u → settle_answer s t b ≡ settle_answer u example_table b
+settle-known t b s u e f = ap (λ v. settle_answer s v b) e ∙ ap (λ u. settle_answer u example_table b) f
 
--- opening the example file
-pub opens-example : (words left : List ℕ) (r : Result Opened FileFault) → length words ≡ 54 →
-    ◌≡◌ {A = Result Opened FileFault × List ℕ} (r, left) (leaving words (open_graph (encode example) words)) → (r ≡ Ok example_opened) × (left ≡ example_words)
-opens-example words left r l e =
-    let z : ◌≡◌ {A = Result Opened FileFault × List ℕ} (r, left) (Ok example_opened, over example_words words) = e ∙ ap (leaving words) (examples.opens words (omega (arith, l))) in
-    (ap (λ p. p.0) z, ap (λ p. p.1) z ∙ ap (λ ws. example_words ++ ws) (ap (λ n. drop n words) (sym l) ∙ drop-length words) ∙ append-nil example_words)
+-- what opening the example file leaves in as many words as it needs
+pub left-by-example : (words : List ℕ) → length words ≡ 54 → open_leaves (encode example) words ≡ example_words
+left-by-example words l =
+    examples.leaves words (omega (arith, l)) ∙ ap (λ ws. example_words ++ ws) (ap (λ n. drop n words) (sym l) ∙ drop-length words) ∙ append-nil example_words

@@ -3,7 +3,7 @@ use Rattle.std.specs.Prelude.{◌≡◌, ℕ, true, false, List, [], ◌∷◌, 
 use Rattle.text.specs.Examples as text
 use Rattle.graph.specs.Examples as graph
 use Rattle.graph.specs.Examples.{example_words}
-use Rattle.refusals.specs.Bytes.{about_no_record}
+use Rattle.refusals.specs.Refusals.{about_no_record}
 use Rattle.policy.specs.Answers.{host_split}
 use Rattle.rulebook.specs.Tables.{Table}
 use Rattle.rulebook.specs.GraphTable.{graph_table}
@@ -32,7 +32,7 @@ abbrev pub example_items : List ℕ
 example_items = 0 ∷ 6 ∷ []
 
 abbrev pub example_asked : State
-example_asked = request_all example_items new_session
+example_asked = request_all new_session example_items
 
 -- trail records: an item without causes, with one, and with two
 abbrev pub asked : ℕ → TrailRecord
@@ -85,13 +85,13 @@ pub record WorkedExamples : Type 0 where
   pub rows : example_table.rows ≡ 10
   -- 11 steps leave nothing pending; 3 do not, and 10 do not
   pub accepted : request_answer new_session example_items ≡ Ok tt
-  pub settles : settle_answer example_table 11 example_asked ≡ Ok (Settled 11)
-  pub trail : (settle_run example_table 11 example_asked).state.trail ≡ example_trail
-  pub soon : settle_answer example_table 3 example_asked ≡ Ok Pending
-  pub active : active_count (settle_run example_table 3 example_asked).state.trail 20 ≡ 5
-  pub nearly : settle_answer example_table 10 example_asked ≡ Ok Pending
+  pub settles : settle_answer example_asked example_table 11 ≡ Ok (Settled 11)
+  pub trail : (settle_run example_asked example_table 11).state.trail ≡ example_trail
+  pub soon : settle_answer example_asked example_table 3 ≡ Ok Pending
+  pub active : active_count (settle_run example_asked example_table 3).state.trail 20 ≡ 5
+  pub nearly : settle_answer example_asked example_table 10 ≡ Ok Pending
   -- so too in parts
-  pub answers : answers_from example_table new_session example_calls ≡ example_answers
+  pub answers : answers_from new_session example_table example_calls ≡ example_answers
   pub whole : example_history.state.trail ≡ example_trail
   pub given : example_history.accepted ≡ example_items
   pub steps : example_history.steps ≡ 11

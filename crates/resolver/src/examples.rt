@@ -70,7 +70,7 @@ fn run<B: Rulebook>(book: &B, session: &mut Session<'_>) -> Course
     requires book { B.Rulebook.table book.now ≡ example_table }
     requires session { state session.old ≡ new_session }
     ensures answers { result ≡ record { requested = Ok tt; soon = Ok Pending; count = 5; nearly = Ok Pending; settled = Ok (Settled 1) } }
-    ensures state { state session.new ≡ (settle_run example_table 11 example_asked).state }
+    ensures state { state session.new ≡ (settle_run example_asked example_table 11).state }
 {
     let requested = session.request(&[0, 6]);
     let soon = session.settle(book, 3);
@@ -88,7 +88,7 @@ fn run<B: Rulebook>(book: &B, session: &mut Session<'_>) -> Course
 
 // Whether the settled session tells what is active.
 fn tells_active(session: &Session<'_>) -> bool
-    requires { state session.now ≡ (settle_run example_table 11 example_asked).state }
+    requires { state session.now ≡ (settle_run example_asked example_table 11).state }
     ensures { result ≡ true }
 {
     session.active(12) == Ok(true)
@@ -98,7 +98,7 @@ fn tells_active(session: &Session<'_>) -> bool
 
 // Whether it tells what made items active: nothing, one item, or two.
 fn tells_reasons(session: &Session<'_>) -> bool
-    requires { state session.now ≡ (settle_run example_table 11 example_asked).state }
+    requires { state session.now ≡ (settle_run example_asked example_table 11).state }
     ensures { result ≡ true }
 {
     session.reason(6) == Ok(reason(None, None))

@@ -12,9 +12,9 @@ later k n xs ys l e =
 
 pub kept-on : (s u v : Session) → Keeps s u → Keeps u v → Keeps s v
 kept-on s u v h i = record {
-  items = h.items ∙ i.items;
+  items = i.items ∙ h.items;
   longer = omega (arith, h.longer, i.longer);
-  same = (h.same.0 ∙ i.same.0, h.same.1 ∙ i.same.1);
-  places = h.places ∙ later u.trail.len s.trail.len _ _ h.longer i.places;
-  marks = h.marks ∙ ap (λ n. drop n u.trail.marks.now) h.items ∙ i.marks ∙ ap (λ n. drop n v.trail.marks.now) (sym h.items);
+  same = (i.same.0 ∙ h.same.0, i.same.1 ∙ h.same.1);
+  places = i.places ∙ later u.trail.len v.trail.len _ _ i.longer h.places;
+  marks = i.marks ∙ ap (λ n. drop n u.trail.marks.now) i.items ∙ h.marks ∙ ap (λ n. drop n s.trail.marks.now) (sym i.items);
 }

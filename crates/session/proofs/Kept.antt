@@ -136,19 +136,19 @@ module _ (table : Table) (laws : Laws table) where
       )
 
   requested-keeps : (asked : List ℕ) (k : ℕ) (is : List ℕ) (s : State) → all_below s.items is ≡ true → Invariant table asked k s →
-      Invariant table (asked ++ is) k (request_all is s) × ((request_all is s).items ≡ s.items)
+      Invariant table (asked ++ is) k (request_all s is) × ((request_all s is).items ≡ s.items)
   requested-keeps asked k [] s h v = (subst (λ l. Invariant table l k s) (sym (append-nil asked)) v, refl)
   requested-keeps asked k (i ∷ is) s h v =
       let w = and_parts (ltb i s.items) (all_below s.items is) h in
       let one = requested_one-keeps asked k s i (ltb-true i s.items w.0) v in
       let more = requested-keeps (asked ++ i ∷ []) k is (request_one s i) (ap (λ n. all_below n is) one.1 ∙ w.1) one.0 in
-      (subst (λ l. Invariant table l k (request_all is (request_one s i))) (append_assoc asked (i ∷ []) is) more.0, more.1 ∙ one.1)
+      (subst (λ l. Invariant table l k (request_all (request_one s i) is)) (append_assoc asked (i ∷ []) is) more.0, more.1 ∙ one.1)
 
   -- after an accepted settle
-  pub settled-ends : (n : ℕ) (h : History) (b : ℕ) → Kept table n h → table.items ≡ h.state.items → let r = settle_run table b h.state in
+  pub settled-ends : (n : ℕ) (h : History) (b : ℕ) → Kept table n h → table.items ≡ h.state.items → let r = settle_run h.state table b in
       Settles h.accepted (h.steps + reported b (outcome_of r)) r.state × Ended table r.state r.pending
   settled-ends n h b kept same =
-      let r = settle_run table b h.state in
+      let r = settle_run h.state table b in
       let ends = settled-keeps table (Settles h.accepted) (moved-keeps h.accepted) (taken-keeps h.accepted) b h.steps h.state (kept.invariant, same) in
       (subst (λ j. Settles h.accepted (h.steps + j) r.state) (sym (reported-steps table b h.state)) ends.0, ends.1)
 
@@ -159,12 +159,12 @@ module _ (table : Table) (laws : Laws table) where
   pub called-keeps : (n : ℕ) (h : History) (c : Call) → Kept table n h → Kept table n (called table h c)
   called-keeps n h (active_call i) kept = kept
   called-keeps n h (reason i) kept = kept
-  called-keeps n h (settle b) kept = go (fits table h.state) refl
+  called-keeps n h (settle b) kept = go (fits h.state table) refl
     where
-      go : (t : Bool) → fits table h.state ≡ t → Kept table n (cond t (after_settle h b (settle_run table b h.state)) h)
+      go : (t : Bool) → fits h.state table ≡ t → Kept table n (cond t (after_settle h b (settle_run h.state table b)) h)
       go false e = kept
       go true e =
-          let r = settle_run table b h.state in
+          let r = settle_run h.state table b in
           let same : table.items ≡ h.state.items = eqb-true table.items h.state.items e in
           let ends = settled-ends n h b kept same in
           record { invariant = ends.0.0; count = sym ends.0.1 ∙ same ∙ kept.count; rests = ended-rests r.state r.pending ends.1 }

@@ -55,28 +55,28 @@ ended-stepped table asked h pending v same = go pending
         omega (arith, v.core.spent, watched, before_less table h.state.trail h.state.position h.state.row x xs f d (seek-some table x.item h.state.row f q))
 
 -- the call that gave an answer, and the calls before it
-answer-call : (table : Table) (s : State) (calls : List Call) (k : ℕ) (a : Answer) → slice_get (answers_from table s calls) k ≡ Some a →
-    (front : List Call) × (c : Call) × (take (suc k) calls ≡ front ++ c ∷ []) × (call_answer table (calls_leave table s front) c ≡ a)
+answer-call : (table : Table) (s : State) (calls : List Call) (k : ℕ) (a : Answer) → slice_get (answers_from s table calls) k ≡ Some a →
+    (front : List Call) × (c : Call) × (take (suc k) calls ≡ front ++ c ∷ []) × (call_answer (calls_leave s table front) table c ≡ a)
 answer-call table s [] k a e = absurd (none-some a e)
 answer-call table s (c ∷ cs) zero a e = ([], c, refl, same_Some _ a e)
 answer-call table s (c ∷ cs) (suc k) a e =
-    let more = answer-call table (call_leaves table s c) cs k a e in
+    let more = answer-call table (call_leaves s table c) cs k a e in
     (c ∷ more.0, more.1, ap (λ l. c ∷ l) more.2, more.3)
 
 module _ (table : Table) (laws : Laws table) where
-  settle-stepped : (n : ℕ) (h : History) (b : ℕ) → Kept table n h → fits table h.state ≡ true →
-      Stepped table (after_settle h b (settle_run table b h.state)) (settle_run table b h.state).pending
+  settle-stepped : (n : ℕ) (h : History) (b : ℕ) → Kept table n h → fits h.state table ≡ true →
+      Stepped table (after_settle h b (settle_run h.state table b)) (settle_run h.state table b).pending
   settle-stepped n h b kept f =
-      let r = settle_run table b h.state in
+      let r = settle_run h.state table b in
       let ends = settled-ends table laws n h b kept (eqb-true table.items h.state.items f) in
       ended-stepped table h.accepted (after_settle h b r) r.pending ends.0.0 ends.0.1 ends.1
 
   -- after a call its answer tells of the step sum
-  called-counted : (n : ℕ) (h : History) (c : Call) → Kept table n h → Counted table (called table h c) (call_answer table h.state c)
+  called-counted : (n : ℕ) (h : History) (c : Call) → Kept table n h → Counted table (called table h c) (call_answer h.state table c)
   called-counted n h (request is) kept = tt
   called-counted n h (active_call i) kept = tt
   called-counted n h (reason i) kept = tt
-  called-counted n h (settle b) kept = go (fits table h.state) (settle_run table b h.state) (settle-stepped n h b kept)
+  called-counted n h (settle b) kept = go (fits h.state table) (settle_run h.state table b) (settle-stepped n h b kept)
     where
       ran : (r : Run) (p : Bool) → let q : Run = record { state = r.state; steps = r.steps; pending = p } in
           Stepped table (after_settle h b q) p → Counted table (after_settle h b q) (answer.Settle (Ok (outcome_of q)))
@@ -88,13 +88,13 @@ module _ (table : Table) (laws : Laws table) where
       go true r z = ran r r.pending (z refl)
       go false r z = tt
 
-  answers-counted : (n : ℕ) (calls : List Call) (k : ℕ) (a : Answer) → slice_get (answers_from table (empty n) calls) k ≡ Some a → Counted table (history table n (take (k + 1) calls)) a
+  answers-counted : (n : ℕ) (calls : List Call) (k : ℕ) (a : Answer) → slice_get (answers_from (empty n) table calls) k ≡ Some a → Counted table (history table n (take (k + 1) calls)) a
   answers-counted n calls k a e =
       let (front, c, begins, told) = answer-call table (empty n) calls k a e in
       let same : history table n (take (k + 1) calls) ≡ called table (history table n front) c =
       ap (λ j. history table n (take j calls)) (add-one k) ∙ ap (history table n) begins ∙ history-push table n front c in
       subst (Counted table (history table n (take (k + 1) calls))) told
-      (subst (λ h. Counted table h (call_answer table (calls_leave table (empty n) front) c)) (sym same)
+      (subst (λ h. Counted table h (call_answer (calls_leave (empty n) table front) table c)) (sym same)
       (called-counted n (history table n front) c (history-kept table laws n front)))
 
   -- the step sum is at most the number of entries that the table has room for

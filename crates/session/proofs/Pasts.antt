@@ -20,7 +20,7 @@ reported b (Settled n) = n
 reported b Pending = b
 
 abbrev pub after_request : History → List ℕ → History
-after_request h is = record { state = request_all is h.state; accepted = h.accepted ++ is; steps = h.steps; settled = false }
+after_request h is = record { state = request_all h.state is; accepted = h.accepted ++ is; steps = h.steps; settled = false }
 
 abbrev pub after_settle : History → ℕ → Run → History
 after_settle h b r = record { state = r.state; accepted = h.accepted; steps = h.steps + reported b (outcome_of r); settled = not r.pending }
@@ -28,7 +28,7 @@ after_settle h b r = record { state = r.state; accepted = h.accepted; steps = h.
 -- a refused call and a question leave all as it was
 abbrev pub called : Table → History → Call → History
 called t h (request is) = cond (all_below h.state.items is) (after_request h is) h
-called t h (settle b) = cond (fits t h.state) (after_settle h b (settle_run t b h.state)) h
+called t h (settle b) = cond (fits h.state t) (after_settle h b (settle_run h.state t b)) h
 called t h (active i) = h
 called t h (reason i) = h
 
@@ -43,13 +43,13 @@ module _ (t : Table) where
       λ i. record { state = h.state; accepted = sym (append-nil h.accepted) i; steps = z i; settled = h.settled }
 
   -- so the answer tells how a call changes a history
-  called-told : (h : History) (c : Call) → called t h c ≡ told_after h c (call_answer t h.state c) (call_leaves t h.state c)
+  called-told : (h : History) (c : Call) → called t h c ≡ told_after h c (call_answer h.state t c) (call_leaves h.state t c)
   called-told h (request is) = go (all_below h.state.items is)
     where
-      go : (b : Bool) → cond b (after_request h is) h ≡ told_after h (request is) (answer.Request (cond b (Ok tt) (Err fault.Item))) (cond b (request_all is h.state) h.state)
-      go true = let z : h.steps ≡ h.steps + 0 = omega arith in λ i. record { state = request_all is h.state; accepted = h.accepted ++ is; steps = z i; settled = false }
+      go : (b : Bool) → cond b (after_request h is) h ≡ told_after h (request is) (answer.Request (cond b (Ok tt) (Err fault.Item))) (cond b (request_all h.state is) h.state)
+      go true = let z : h.steps ≡ h.steps + 0 = omega arith in λ i. record { state = request_all h.state is; accepted = h.accepted ++ is; steps = z i; settled = false }
       go false = same h
-  called-told h (settle b) = go (fits t h.state) (settle_run t b h.state)
+  called-told h (settle b) = go (fits h.state t) (settle_run h.state t b)
     where
       ran : (r : Run) (p : Bool) → let q : Run = record { state = r.state; steps = r.steps; pending = p } in
           after_settle h b q ≡ told_after h (settle b) (answer.Settle (Ok (outcome_of q))) r.state
@@ -63,22 +63,22 @@ module _ (t : Table) where
   called-told h (reason i) = same h
 
   -- after some calls
-  past-told : (h : History) (calls : List Call) → let answers = answers_from t h.state calls in
+  past-told : (h : History) (calls : List Call) → let answers = answers_from h.state t calls in
       fold (called t) h calls ≡ record {
-        state = calls_leave t h.state calls;
+        state = calls_leave h.state t calls;
         accepted = h.accepted ++ accepted_items calls answers;
         steps = fold (λ x m. x + steps_in_call m.0 m.1) h.steps (zip calls answers);
         settled = fold settled_after_call h.settled answers;
       }
   past-told h [] = λ i. record { state = h.state; accepted = sym (append-nil h.accepted) i; steps = h.steps; settled = h.settled }
   past-told h (c ∷ cs) =
-      let a = call_answer t h.state c in
-      let s = call_leaves t h.state c in
-      let answers = answers_from t s cs in
+      let a = call_answer h.state t c in
+      let s = call_leaves h.state t c in
+      let answers = answers_from s t cs in
       let next = told_after h c a s in
       ap (λ g. fold (called t) g cs) (called-told h c) ∙ past-told next cs
       ∙ (λ i. record {
-        state = calls_leave t s cs;
+        state = calls_leave s t cs;
         accepted = append_assoc h.accepted (accepted_in_call c a) (accepted_items cs answers) i;
         steps = fold (λ x m. x + steps_in_call m.0 m.1) next.steps (zip cs answers);
         settled = fold settled_after_call next.settled answers;

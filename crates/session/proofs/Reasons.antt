@@ -108,7 +108,7 @@ module _ (table : Table) where
       go false h = reasons
 
   -- items that were asked for join
-  requested-reasons : (asked is : List ℕ) (s : State) → ((i : ℕ) → OneOf is i → OneOf asked i) → Reasons asked s.trail → Reasons asked (request_all is s).trail
+  requested-reasons : (asked is : List ℕ) (s : State) → ((i : ℕ) → OneOf is i → OneOf asked i) → Reasons asked s.trail → Reasons asked (request_all s is).trail
   requested-reasons asked [] s h reasons = reasons
   requested-reasons asked (i ∷ is) s h reasons = requested-reasons asked is (request_one s i) (λ j o. h j (inr o)) (go (active s.trail i))
     where
@@ -126,12 +126,12 @@ module _ (table : Table) where
           requested-reasons (h.accepted ++ is) is h.state (one-right h.accepted is)
           (more-reasons h.accepted (h.accepted ++ is) h.state.trail (one-left h.accepted is) reasons)
       go false = reasons
-  called-reasons h (settle b) reasons = go (fits table h.state)
+  called-reasons h (settle b) reasons = go (fits h.state table)
     where
-      ends : Reasons h.accepted (settle_run table b h.state).state.trail
+      ends : Reasons h.accepted (settle_run h.state table b).state.trail
       ends = (settled-keeps table (λ k s. Reasons h.accepted s.trail) (λ k s x xs d e r. r) (λ k s x xs f d e r. taken-reasons h.accepted s x xs f d e r) b 0 h.state reasons).0
 
-      go : (f : Bool) → let g = cond f (after_settle h b (settle_run table b h.state)) h in Reasons g.accepted g.state.trail
+      go : (f : Bool) → let g = cond f (after_settle h b (settle_run h.state table b)) h in Reasons g.accepted g.state.trail
       go true = ends
       go false = reasons
 

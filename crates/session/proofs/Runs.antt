@@ -33,56 +33,56 @@ module _ (t : Table) where
     ahead = drop s.position s.trail
 
     -- with no trail item left
-    at-rest : worked_item s ≡ None → (b : ℕ) → settle_run t b s ≡ record { state = s; steps = 0; pending = false }
+    at-rest : worked_item s ≡ None → (b : ℕ) → settle_run s t b ≡ record { state = s; steps = 0; pending = false }
     at-rest e b = go ahead refl e b
       where
-        by : (b : ℕ) → next t s ≡ rest s → settle_run t b s ≡ record { state = s; steps = 0; pending = false }
+        by : (b : ℕ) → next s t ≡ rest s → settle_run s t b ≡ record { state = s; steps = 0; pending = false }
         by zero q = ap halt q
-        by (suc b) q = ap (step_once (settle_run t b)) q
+        by (suc b) q = ap (step_once (λ u. settle_run u t b)) q
 
-        go : (rs : List TrailRecord) → ahead ≡ rs → item_of ahead ≡ None → (b : ℕ) → settle_run t b s ≡ record { state = s; steps = 0; pending = false }
-        go [] q e b = by b (ap (λ rs. next_among t rs s) q)
+        go : (rs : List TrailRecord) → ahead ≡ rs → item_of ahead ≡ None → (b : ℕ) → settle_run s t b ≡ record { state = s; steps = 0; pending = false }
+        go [] q e b = by b (ap (λ rs. next_among s t rs) q)
         go (r ∷ rs) q e b = absurd (none-some r.item (sym e ∙ ap item_of q))
 
     module _ (i : ℕ) (item : worked_item s ≡ Some i) where
       -- what seek answers of the worked item tells what is next
-      next-by : (o : Option RowEntry) → seek t i s.row ≡ o → next t s ≡ or_next o s (next t (with_position s (s.position + 1) 0))
+      next-by : (o : Option RowEntry) → seek t i s.row ≡ o → next s t ≡ or_next o s (next (with_position s (s.position + 1) 0) t)
       next-by o e = go ahead refl item
         where
-          go : (rs : List TrailRecord) → ahead ≡ rs → item_of ahead ≡ Some i → next t s ≡ or_next o s (next t (with_position s (s.position + 1) 0))
+          go : (rs : List TrailRecord) → ahead ≡ rs → item_of ahead ≡ Some i → next s t ≡ or_next o s (next (with_position s (s.position + 1) 0) t)
           go [] q h = absurd (none-some i (ap item_of (sym q) ∙ h))
           go (r ∷ rs) q h =
               let same : r.item ≡ i = same_Some r.item i (ap item_of (sym q) ∙ h) in
               let on : rs ≡ drop (s.position + 1) s.trail = sym (drop-one s.position s.trail r rs q) in
-              ap (λ rs. next_among t rs s) q
-              ∙ ap (λ x. or_next (seek t x s.row) s (next_among t rs (with_position s (s.position + 1) 0))) same
-              ∙ ap (λ p. or_next p s (next_among t rs (with_position s (s.position + 1) 0))) e
-              ∙ ap (λ xs. or_next o s (next_among t xs (with_position s (s.position + 1) 0))) on
+              ap (λ rs. next_among s t rs) q
+              ∙ ap (λ x. or_next (seek t x s.row) s (next_among (with_position s (s.position + 1) 0) t rs)) same
+              ∙ ap (λ p. or_next p s (next_among (with_position s (s.position + 1) 0) t rs)) e
+              ∙ ap (λ xs. or_next o s (next_among (with_position s (s.position + 1) 0) t xs)) on
 
       -- where it answers none, the next trail item is worked
-      on-move : seek t i s.row ≡ None → (b : ℕ) → settle_run t b s ≡ settle_run t b (with_position s (s.position + 1) 0)
+      on-move : seek t i s.row ≡ None → (b : ℕ) → settle_run s t b ≡ settle_run (with_position s (s.position + 1) 0) t b
       on-move e zero = ap halt (next-by None e)
-      on-move e (suc b) = ap (step_once (settle_run t b)) (next-by None e)
+      on-move e (suc b) = ap (step_once (λ u. settle_run u t b)) (next-by None e)
 
       module _ (f : RowEntry) (e : seek t i s.row ≡ Some f) where
-        on-stop : settle_run t 0 s ≡ record { state = s; steps = 0; pending = true }
+        on-stop : settle_run s t 0 ≡ record { state = s; steps = 0; pending = true }
         on-stop = ap halt (next-by (Some f) e)
 
-        on-take : (b : ℕ) → settle_run t (suc b) s ≡ one_step_more (settle_run t b (take_entry s f))
-        on-take b = ap (step_once (settle_run t b)) (next-by (Some f) e)
+        on-take : (b : ℕ) → settle_run s t (suc b) ≡ one_step_more (settle_run (take_entry s f) t b)
+        on-take b = ap (step_once (λ u. settle_run u t b)) (next-by (Some f) e)
 
   -- from where a run with a budget began, k steps led here, and the rest of the budget goes on from here
   abbrev pub Leads : ℕ → State → ℕ → State → Type 0
-  Leads budget s k u = (k ≤ budget) × (settle_run t budget s ≡ after k (settle_run t (budget - k) u))
+  Leads budget s k u = (k ≤ budget) × (settle_run s t budget ≡ after k (settle_run u t (budget - k)))
 
   pub lead-start : (budget : ℕ) (s : State) → Leads budget s 0 s
   lead-start budget s =
       let z : budget ≡ budget - 0 = omega arith in
-      let y : (settle_run t (budget - 0) s).steps ≡ 0 + (settle_run t (budget - 0) s).steps = omega arith in
-      (omega arith, ap (λ b. settle_run t b s) z ∙ (λ i. record { state = (settle_run t (budget - 0) s).state; steps = y i; pending = (settle_run t (budget - 0) s).pending }))
+      let y : (settle_run s t (budget - 0)).steps ≡ 0 + (settle_run s t (budget - 0)).steps = omega arith in
+      (omega arith, ap (λ b. settle_run s t b) z ∙ (λ i. record { state = (settle_run s t (budget - 0)).state; steps = y i; pending = (settle_run s t (budget - 0)).pending }))
 
   module _ (budget : ℕ) (s : State) (k : ℕ) (u : State) (leads : Leads budget s k u) where
-    pub lead-rest : worked_item u ≡ None → settle_run t budget s ≡ record { state = u; steps = k; pending = false }
+    pub lead-rest : worked_item u ≡ None → settle_run s t budget ≡ record { state = u; steps = k; pending = false }
     lead-rest e =
         let z : k + 0 ≡ k = omega arith in
         leads.1 ∙ ap (after k) (at-rest u e (budget - k)) ∙ (λ i. record { state = u; steps = z i; pending = false })
@@ -92,13 +92,13 @@ module _ (t : Table) where
       lead-move e = (leads.0, leads.1 ∙ ap (after k) (on-move u i item e (budget - k)))
 
       module _ (f : RowEntry) (e : seek t i u.row ≡ Some f) where
-        pub lead-stop : k ≡ budget → settle_run t budget s ≡ record { state = u; steps = k; pending = true }
+        pub lead-stop : k ≡ budget → settle_run s t budget ≡ record { state = u; steps = k; pending = true }
         lead-stop q =
             let z : budget - k ≡ 0 = omega arith in
             let y : k + 0 ≡ k = omega arith in
-            leads.1 ∙ ap (λ b. after k (settle_run t b u)) z ∙ ap (after k) (on-stop u i item f e) ∙ (λ j. record { state = u; steps = y j; pending = true })
+            leads.1 ∙ ap (λ b. after k (settle_run u t b)) z ∙ ap (after k) (on-stop u i item f e) ∙ (λ j. record { state = u; steps = y j; pending = true })
 
         pub lead-take : k < budget → Leads budget s (k + 1) (take_entry u f)
         lead-take l =
             let z : budget - k ≡ suc (budget - (k + 1)) = omega arith in
-            (omega arith, leads.1 ∙ ap (λ b. after k (settle_run t b u)) z ∙ ap (after k) (on-take u i item f e (budget - (k + 1))) ∙ after-one k (settle_run t (budget - (k + 1)) (take_entry u f)))
+            (omega arith, leads.1 ∙ ap (λ b. after k (settle_run u t b)) z ∙ ap (after k) (on-take u i item f e (budget - (k + 1))) ∙ after-one k (settle_run (take_entry u f) t (budget - (k + 1))))

@@ -24,25 +24,25 @@ call_view (variant.Active i) = active i
 call_view (variant.Reason i) = reason i
 
 -- what a call answers in a state, and what it leaves
-abbrev pub call_answer : Table → State → Call → Answer
-call_answer t s (request is) = answer.Request (request_answer s is)
-call_answer t s (settle b) = answer.Settle (settle_answer t b s)
-call_answer t s (active i) = answer.Active (active_answer s i)
-call_answer t s (reason i) = answer.Reason (reason_answer s i)
+abbrev pub call_answer : State → Table → Call → Answer
+call_answer s t (request is) = answer.Request (request_answer s is)
+call_answer s t (settle b) = answer.Settle (settle_answer s t b)
+call_answer s t (active i) = answer.Active (active_answer s i)
+call_answer s t (reason i) = answer.Reason (reason_answer s i)
 
-abbrev pub call_leaves : Table → State → Call → State
-call_leaves t s (request is) = request_leaves s is
-call_leaves t s (settle b) = settle_leaves t b s
-call_leaves t s (active i) = s
-call_leaves t s (reason i) = s
+abbrev pub call_leaves : State → Table → Call → State
+call_leaves s t (request is) = request_leaves s is
+call_leaves s t (settle b) = settle_leaves s t b
+call_leaves s t (active i) = s
+call_leaves s t (reason i) = s
 
 -- what some calls leave, and what each of them answers, from a state on
-abbrev pub calls_leave : Table → State → List Call → State
-calls_leave t s calls = fold (call_leaves t) s calls
+abbrev pub calls_leave : State → Table → List Call → State
+calls_leave s t calls = fold (λ u c. call_leaves u t c) s calls
 
-abbrev pub answers_from : Table → State → List Call → List Answer
-answers_from t s [] = []
-answers_from t s (c ∷ cs) = call_answer t s c ∷ answers_from t (call_leaves t s c) cs
+abbrev pub answers_from : State → Table → List Call → List Answer
+answers_from s t [] = []
+answers_from s t (c ∷ cs) = call_answer s t c ∷ answers_from (call_leaves s t c) t cs
 
 -- What calls and their answers tell:
 
@@ -83,8 +83,8 @@ pub record History : Type 0 where
 -- after some calls on a new session with n items
 abbrev pub history : Table → ℕ → List Call → History
 history t n calls =
-    let answers = answers_from t (empty n) calls in
-    record { state = calls_leave t (empty n) calls; accepted = accepted_items calls answers; steps = step_sum calls answers; settled = settled_after answers }
+    let answers = answers_from (empty n) t calls in
+    record { state = calls_leave (empty n) t calls; accepted = accepted_items calls answers; steps = step_sum calls answers; settled = settled_after answers }
 
 -- A caller that chooses each call in view of the earlier answers, the newest last.
 abbrev pub Chooser : Type 0
@@ -93,4 +93,4 @@ Chooser = List Answer → Call
 -- the first k calls that it makes
 abbrev pub first_calls : Table → ℕ → Chooser → ℕ → List Call
 first_calls t n choose zero = []
-first_calls t n choose (suc k) = first_calls t n choose k ++ choose (answers_from t (empty n) (first_calls t n choose k)) ∷ []
+first_calls t n choose (suc k) = first_calls t n choose k ++ choose (answers_from (empty n) t (first_calls t n choose k)) ∷ []

@@ -1,6 +1,5 @@
 pub mod Trails
 pub mod Refusals
-pub mod Memory
 pub mod States
 pub mod Held
 pub mod Least

@@ -1,6 +1,6 @@
 -- Which number each refusal of a call on a session has; it is about no record of a file.
 use Rattle.refusals.specs.declared.Refusal.{Refusal}
-use Rattle.refusals.specs.Bytes.{about_no_record}
+use Rattle.refusals.specs.Refusals.{about_no_record}
 use Rattle.session.specs.declared.calls.SessionFault.{SessionFault}
 use Rattle.session.specs.declared.calls.SessionFault.TheVariants.{Memory, Item, Inactive}
 

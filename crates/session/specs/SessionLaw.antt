@@ -46,7 +46,7 @@ pub record SessionLaw (t : Table) (n : ℕ) (calls : List Call) : Type 0 where
   -- and while the session is settled, each item of that set is active;
   pub complete : T (history t n calls).settled → (i : ℕ) → Least t (history t n calls).accepted i → Active (history t n calls) i
   -- after each of the calls, its answer tells of the step sum so far;
-  pub counted : (k : ℕ) (a : Answer) → slice_get (answers_from t (empty n) calls) k ≡ Some a → Counted t (history t n (take (k + 1) calls)) a
+  pub counted : (k : ℕ) (a : Answer) → slice_get (answers_from (empty n) t calls) k ≡ Some a → Counted t (history t n (take (k + 1) calls)) a
   -- the causes of each trail record are what made its item active;
   pub reasons : (k : ℕ) (r : TrailRecord) → slice_get (history t n calls).state.trail k ≡ Some r → Because t (history t n calls).state.trail (history t n calls).accepted k r
   -- and there are never more steps than the table has places for entries

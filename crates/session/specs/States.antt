@@ -44,9 +44,9 @@ open_session n places marks = empty (items_after n (check_answer n places marks)
 abbrev pub request_one : State → ℕ → State
 request_one s i = cond (active s.trail i) s (with_trail s (s.trail ++ record { item = i; first = None; second = None } ∷ []))
 
-abbrev pub request_all : List ℕ → State → State
-request_all [] s = s
-request_all (i ∷ is) s = request_all is (request_one s i)
+abbrev pub request_all : State → List ℕ → State
+request_all s [] = s
+request_all s (i ∷ is) = request_all (request_one s i) is
 
 abbrev pub all_below : ℕ → List ℕ → Bool
 all_below n [] = true
@@ -56,7 +56,7 @@ abbrev pub request_answer : State → List ℕ → Result (Unit {0}) SessionFaul
 request_answer s is = cond (all_below s.items is) (Ok tt) (Err fault.Item)
 
 abbrev pub request_leaves : State → List ℕ → State
-request_leaves s is = cond (all_below s.items is) (request_all is s) s
+request_leaves s is = cond (all_below s.items is) (request_all s is) s
 
 -- Settle
 
@@ -89,12 +89,12 @@ abbrev pub or_next : Option RowEntry → State → Next → Next
 or_next None s later = later
 or_next (Some f) s later = due s f
 
-abbrev pub next_among : Table → List TrailRecord → State → Next
-next_among t [] s = rest s
-next_among t (r ∷ rs) s = or_next (seek t r.item s.row) s (next_among t rs (with_position s (s.position + 1) 0))
+abbrev pub next_among : State → Table → List TrailRecord → Next
+next_among s t [] = rest s
+next_among s t (r ∷ rs) = or_next (seek t r.item s.row) s (next_among (with_position s (s.position + 1) 0) t rs)
 
-abbrev pub next : Table → State → Next
-next t s = next_among t (drop s.position s.trail) s
+abbrev pub next : State → Table → Next
+next s t = next_among s t (drop s.position s.trail)
 
 -- how settling ends: the state, how many entries were taken, and whether one is due
 pub record Run : Type 0 where
@@ -116,22 +116,22 @@ step_once more (rest s) = record { state = s; steps = 0; pending = false }
 step_once more (due s f) = one_step_more (more (take_entry s f))
 
 -- settling within a budget
-abbrev pub settle_run : Table → ℕ → State → Run
-settle_run t zero s = halt (next t s)
-settle_run t (suc b) s = step_once (settle_run t b) (next t s)
+abbrev pub settle_run : State → Table → ℕ → Run
+settle_run s t zero = halt (next s t)
+settle_run s t (suc b) = step_once (λ u. settle_run u t b) (next s t)
 
 abbrev pub outcome_of : Run → Outcome
 outcome_of r = cond r.pending Pending (Settled r.steps)
 
 -- a rulebook of another item count is refused
-abbrev pub fits : Table → State → Bool
-fits t s = t.items == s.items
+abbrev pub fits : State → Table → Bool
+fits s t = t.items == s.items
 
-abbrev pub settle_answer : Table → ℕ → State → Result Outcome SessionFault
-settle_answer t b s = cond (fits t s) (Ok (outcome_of (settle_run t b s))) (Err fault.Item)
+abbrev pub settle_answer : State → Table → ℕ → Result Outcome SessionFault
+settle_answer s t b = cond (fits s t) (Ok (outcome_of (settle_run s t b))) (Err fault.Item)
 
-abbrev pub settle_leaves : Table → ℕ → State → State
-settle_leaves t b s = cond (fits t s) (settle_run t b s).state s
+abbrev pub settle_leaves : State → Table → ℕ → State
+settle_leaves s t b = cond (fits s t) (settle_run s t b).state s
 
 -- Questions
 

@@ -3,14 +3,7 @@
 #![tactic(auto)]
 
 mod calls;
-mod joining;
-mod making;
-mod opening;
-mod questions;
-mod refusal_numbers;
-mod requests;
 mod session;
-mod settling;
 mod trail;
 
 pub use calls::{Answer, Call, Outcome, Reason, SessionFault};

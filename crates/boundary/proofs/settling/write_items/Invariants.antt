@@ -1,5 +1,5 @@
 use Rattle.std.proofs.Common.{◌≡◌, ◌++◌, take, drop}
-use Rattle.boundary.specs.Numbers.{items_of}
+use Rattle.boundary.specs.Calls.{items_of}
 use Rattle.boundary.proofs.settling.write_items.Given as goal
 
 -- the records so far are written, and the words after them are as they were

@@ -16,7 +16,7 @@ loop-k-preserved g c =
       more-state t cs l.k _ w (state l.session) (state c.call.new.self) c.call.result m.answer m.state _ l.invariant.0,
       more-answers t cs l.k _ w (state l.session) (state c.call.new.self) c.call.result m.answer m.state l.answers _ (omega (arith, w)) l.invariant.1,
       drop-set-lt (length cs) l.answers l.k c.call.result w ∙ l.invariant.2,
-      kept-on _ _ _ m.keeps l.invariant.3,
+      kept-on _ _ _ l.invariant.3 m.keeps,
     )
 
 pub returns-clause-law : goal.returns-clause-law

@@ -8,7 +8,7 @@ abbrev pub invariant-loop-k : goal.invariant-loop-k
 invariant-loop-k g l =
     let t = g.B.Rulebook.table l.book in
     let rest = map call_view (drop l.k l.calls) in
-    (calls_leave t (state l.session) rest ≡ calls_leave t (state l.initial.session) (map call_view l.calls))
-    × (take l.k l.answers ++ answers_from t (state l.session) rest ≡ answers_from t (state l.initial.session) (map call_view l.calls))
+    (calls_leave (state l.session) t rest ≡ calls_leave (state l.initial.session) t (map call_view l.calls))
+    × (take l.k l.answers ++ answers_from (state l.session) t rest ≡ answers_from (state l.initial.session) t (map call_view l.calls))
     × (drop (length l.calls) l.answers ≡ drop (length l.calls) l.initial.answers)
-    × Keeps l.session l.initial.session
+    × Keeps l.initial.session l.session

@@ -14,7 +14,7 @@ loop-item-preserved c =
     let r = c.request_one.ensures in
     let w : k < length xs = c.loop-item-test.true in
     let low = and_parts _ _ (sym (at_drop_more (all_below l.self.items) xs k 0 w) ∙ l.invariant.1) in (
-      ap (request_all (drop (k + 1) xs)) r.state ∙ sym (at_drop_more (λ ys. request_all ys (state l.self)) xs k 0 w) ∙ l.invariant.0,
+      ap (λ u. request_all u (drop (k + 1) xs)) r.state ∙ sym (at_drop_more (λ ys. request_all (state l.self) ys) xs k 0 w) ∙ l.invariant.0,
       ap (λ n. all_below n (drop (k + 1) xs)) r.keeps.items ∙ low.1,
-      kept-on _ _ _ r.keeps l.invariant.2,
+      kept-on _ _ _ l.invariant.2 r.keeps,
     )

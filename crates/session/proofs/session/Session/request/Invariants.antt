@@ -6,6 +6,6 @@ use Rattle.session.proofs.session.Session.request.Given as goal
 -- the items that are left make the rest of the trail
 abbrev pub invariant-loop-item : goal.invariant-loop-item
 invariant-loop-item l =
-    (request_all (drop l.item-index l.list) (state l.self) ≡ request_all l.list (state l.initial.self))
+    (request_all (state l.self) (drop l.item-index l.list) ≡ request_all (state l.initial.self) l.list)
     × (all_below l.self.items (drop l.item-index l.list) ≡ true)
-    × Keeps l.self l.initial.self
+    × Keeps l.initial.self l.self

@@ -22,19 +22,19 @@ loop-item-preserved-in-None g c =
     let m = c.move_on.ensures in (
       subst (Leads t c.args.budget (state c.args.self.now) l.steps) (sym m.state) (lead-move t c.args.budget (state c.args.self.now) l.steps (state l.self) l.invariant.0 c.in-Some.item (sym c.in-Some.ensures) (sym c.in-None.ensures)),
       m.keeps.items ∙ l.invariant.1,
-      kept-on _ _ _ m.keeps l.invariant.2,
+      kept-on _ _ _ l.invariant.2 m.keeps,
     )
 
-pub take-requires-clause-below : goal.take-requires-clause-below
-take-requires-clause-below g c =
+pub take_entry-requires-clause-below : goal.take_entry-requires-clause-below
+take_entry-requires-clause-below g c =
     let t = g.B.Rulebook.table c.args.book.now in
     let l = c.loop-item in
     let f = c.in-Some-seek.field-0 in
     let first = seek-some t c.in-Some.item l.self.row f (sym c.in-Some-seek.ensures) in
     subst (λ n. (f.entry.conclusion < n) × IfSome f.entry.partner (λ b. b < n)) (sym l.invariant.1) ((g.met.B.Rulebook.lawful c.args.book.now).below c.in-Some.item f.row f.entry first.here)
 
-pub take-requires-clause-row : goal.take-requires-clause-row
-take-requires-clause-row g c =
+pub take_entry-requires-clause-row : goal.take_entry-requires-clause-row
+take_entry-requires-clause-row g c =
     let t = g.B.Rulebook.table c.args.book.now in
     let first = seek-some t c.in-Some.item c.loop-item.self.row c.in-Some-seek.field-0 (sym c.in-Some-seek.ensures) in
     omega (arith, first.under, (g.met.B.Rulebook.lawful c.args.book.now).few_rows)
@@ -43,11 +43,11 @@ pub loop-item-preserved : goal.loop-item-preserved
 loop-item-preserved g c =
     let t = g.B.Rulebook.table c.args.book.now in
     let l = c.loop-item in
-    let m = c.take.ensures in
+    let m = c.take_entry.ensures in
     let less : l.steps < c.args.budget = omega (arith, l.invariant.0.0, c.if-steps-budget.false) in (
       subst (Leads t c.args.budget (state c.args.self.now) (l.steps + 1)) (sym m.state) (lead-take t c.args.budget (state c.args.self.now) l.steps (state l.self) l.invariant.0 c.in-Some.item (sym c.in-Some.ensures) c.in-Some-seek.field-0 (sym c.in-Some-seek.ensures) less),
       m.keeps.items ∙ l.invariant.1,
-      kept-on _ _ _ m.keeps l.invariant.2,
+      kept-on _ _ _ l.invariant.2 m.keeps,
     )
 
 pub returns-clause-answer : goal.returns-clause-answer

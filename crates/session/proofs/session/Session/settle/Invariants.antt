@@ -8,7 +8,7 @@ abbrev pub invariant-loop-item : goal.invariant-loop-item
 invariant-loop-item g l =
     Leads (g.B.Rulebook.table l.book) l.budget (state l.initial.self) l.steps (state l.self)
     × (l.self.items ≡ (g.B.Rulebook.table l.book).items)
-    × Keeps l.self l.initial.self
+    × Keeps l.initial.self l.self
 
 abbrev pub decreases-loop-item : goal.decreases-loop-item
 decreases-loop-item g l = (l.budget - l.steps) + (l.self.items - l.self.position)

@@ -1,0 +1,2 @@
+// The version of the format.
+pub(crate) const VERSION: u16 = 1;
