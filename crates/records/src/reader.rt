@@ -74,7 +74,7 @@ impl<'a> Reader<'a> {
 
     // A string that is read as a `T`.
     fn text<T: FromPiece<'a>>(&mut self) -> Result<T, RecordFault>
-        ensures { outcome_by T.seen result (view self.new) ≡ text_field T.reading (view self.old) }
+        ensures { outcome_by T.meaning result (view self.new) ≡ text_field T.reading (view self.old) }
     {
         Ok(T::read(self.string()?)?)
     }
