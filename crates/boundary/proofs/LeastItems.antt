@@ -1,8 +1,9 @@
 -- What is reported of a session that was settled are the items of the least set.
-use Rattle.std.proofs.Common.{◌≡◌, ℕ, ◌+◌, Bool, true, false, if◌then◌else◌, ◌||◌, T, eqb, leb, List, [], ◌∷◌, ◌++◌, length, take, drop, Ok, Err, Result, sym, refl, ap, ◌∙◌, subst, inl, inr, arith, eqb→eq, append-nil}
-use lib.Dec.{eqb_refl}
-use Rattle.std.proofs.lemmas.Bool.{cond-true, and_from, le-leb}
-use Rattle.std.proofs.lemmas.List.{take_at, length-map}
+use Rattle.std.proofs.Common.{◌≡◌, ℕ, ◌+◌, ◌<◌, Bool, true, false, if◌then◌else◌, eqb, leb, List, [], ◌∷◌, ◌++◌, length, get_or, take, drop, Ok, Err, Result, sym, refl, ap, ◌∙◌, subst, arith, append-nil}
+use Rattle.std.specs.Prelude.{IsTrue, Contains}
+use Rattle.std.proofs.lemmas.List.Folds.{Any-from_list_any, list_any_at}
+use Rattle.std.proofs.lemmas.Bool.{cond-true, and_from, le-leb, eq-eqb, eqb-true}
+use Rattle.std.proofs.lemmas.List.{take_at, length-map, get_or-map}
 use Rattle.graph.specs.Opening.{over}
 use Rattle.policy.specs.Answers.{host_split}
 use Rattle.rulebook.specs.Tables.{Table, Laws, max_items}
@@ -13,8 +14,8 @@ use Rattle.session.specs.declared.calls.Outcome.TheVariants.{Settled, Pending}
 use Rattle.session.specs.declared.calls.SessionFault.{SessionFault}
 use Rattle.session.specs.declared.calls.Answer.TheVariants as answer
 use Rattle.session.specs.declared.trail.TrailRecord.{TrailRecord}
-use Rattle.session.specs.Least.{OneOf, Least}
-use Rattle.session.specs.Trails.{active}
+use Rattle.session.specs.Least.{Least}
+use Rattle.session.specs.Trails.{active, no_record}
 use Rattle.session.specs.States.{State, empty, items_after, request_answer, request_leaves, settle_answer}
 use Rattle.session.specs.Histories.{Call, request, settle, accepted_in_call, settled_after_call, History, history}
 use Rattle.session.proofs.LawHolds.{session-law}
@@ -22,26 +23,17 @@ use Rattle.boundary.specs.Calls.{items_of, report_answer, report_leaves, unless_
 use Rattle.boundary.specs.SettleLaw.{SettleLaw}
 
 -- the items of a trail are the active ones
-items-active : (t : List TrailRecord) (i : ℕ) → OneOf (items_of t) i → T (active t i)
-items-active [] i h = absurd h
-items-active (r ∷ t) i (inl e) = go (eqb r.item i) (subst (λ j. T (eqb r.item j)) e (eqb_refl r.item))
-  where
-    go : (b : Bool) → T b → T (b || active t i)
-    go true h = tt
-    go false h = absurd h
-items-active (r ∷ t) i (inr h) = go (eqb r.item i) (items-active t i h)
-  where
-    go : (b : Bool) → T (active t i) → T (b || active t i)
-    go true k = tt
-    go false k = k
+items-active : (t : List TrailRecord) (i : ℕ) → Contains (items_of t) i → IsTrue (active t i)
+items-active t i (k, l, e) =
+    let inside : k < length t = omega (arith, l, length-map t (λ (r : TrailRecord). r.item)) in
+    list_any_at (λ (r : TrailRecord). eqb r.item i) t k no_record inside
+    (eq-eqb (get_or t k no_record).item i (sym (get_or-map (λ (r : TrailRecord). r.item) t k no_record i inside) ∙ e))
 
-active-items : (t : List TrailRecord) (i : ℕ) → T (active t i) → OneOf (items_of t) i
-active-items [] i h = absurd h
-active-items (r ∷ t) i h = go (eqb r.item i) (eqb→eq r.item i) h (active-items t i)
-  where
-    go : (b : Bool) → (T b → r.item ≡ i) → T (b || active t i) → (T (active t i) → OneOf (items_of t) i) → OneOf (items_of (r ∷ t)) i
-    go true e k more = inl (e tt)
-    go false e k more = inr (more k)
+active-items : (t : List TrailRecord) (i : ℕ) → IsTrue (active t i) → Contains (items_of t) i
+active-items t i h =
+    let (k, r, l, e, q) = Any-from_list_any (λ (r : TrailRecord). eqb r.item i) t h in
+    let size = length-map t (λ (r : TrailRecord). r.item) in
+    (k, omega (arith, l, size), get_or-map (λ (r : TrailRecord). r.item) t k r i l ∙ ap (λ (x : TrailRecord). x.item) e ∙ eqb-true r.item i q)
 
 -- a session for as many items as the table has begins empty
 opened-empty : (t : Table) → Laws t → new_session t ≡ empty t.items
@@ -52,7 +44,7 @@ opened-empty t laws =
 
 -- where the answer is k + 1, the first k words are the items of the least set
 abbrev Tells : Table → List ℕ → ℕ → List ℕ → Type 0
-Tells t is answer active = (k : ℕ) → answer ≡ k + 1 → (i : ℕ) → (OneOf (take k active) i → Least t is i) × (Least t is i → OneOf (take k active) i)
+Tells t is answer active = (k : ℕ) → answer ≡ k + 1 → (i : ℕ) → (Contains (take k active) i → Least t is i) × (Least t is i → Contains (take k active) i)
 
 module _ (t : Table) (laws : Laws t) (is : List ℕ) (b : ℕ) (room : List ℕ) where
   abbrev begun : State
@@ -73,8 +65,8 @@ module _ (t : Table) (laws : Laws t) (is : List ℕ) (b : ℕ) (room : List ℕ)
   accepted-all : request_answer begun is ≡ Ok tt → past.accepted ≡ is
   accepted-all q = ap (λ r. accepted_in_call (request is) (answer.Request r) ++ []) q ∙ append-nil is
 
-  settled-all : (steps : ℕ) → settled ≡ Ok (Settled steps) → T past.settled
-  settled-all steps q = subst (λ a. T (settled_after_call (settled_after_call false (answer.Request (request_answer begun is))) (answer.Settle a))) (sym q) tt
+  settled-all : (steps : ℕ) → settled ≡ Ok (Settled steps) → IsTrue past.settled
+  settled-all steps q = subst (λ a. IsTrue (settled_after_call (settled_after_call false (answer.Request (request_answer begun is))) (answer.Settle a))) (sym q) refl
 
   module _ (number : ℕ) (active : List ℕ) where
     tells-none : number ≡ 0 → Tells t is number active
@@ -87,8 +79,8 @@ module _ (t : Table) (laws : Laws t) (is : List ℕ) (b : ℕ) (room : List ℕ)
         let size : length items ≡ k = omega (arith, q, e, length-map trail (λ (r : TrailRecord). r.item)) in
         let front : take k active ≡ items = ap (take k) w ∙ take_at items (drop (length items) room) k size in
         let asked : past.accepted ≡ is = accepted-all r in (
-          (λ h. subst (λ x. Least t x i) asked (law.sound i (items-active trail i (subst (λ x. OneOf x i) front h)))),
-          (λ h. subst (λ x. OneOf x i) (sym front) (active-items trail i (law.complete (settled-all steps a) i (subst (λ x. Least t x i) (sym asked) h)))),
+          (λ h. subst (λ x. Least t x i) asked (law.sound i (items-active trail i (subst (λ x. Contains x i) front h)))),
+          (λ h. subst (λ x. Contains x i) (sym front) (active-items trail i (law.complete (settled-all steps a) i (subst (λ x. Least t x i) (sym asked) h)))),
         )
 
     tells-room : (steps : ℕ) → request_answer begun is ≡ Ok tt → settled ≡ Ok (Settled steps) → number ≡ report_answer trail (Ok (Settled steps)) room → active ≡ report_leaves trail (Ok (Settled steps)) room → Tells t is number active

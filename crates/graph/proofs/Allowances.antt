@@ -20,14 +20,14 @@ use Rattle.records.proofs.Framing.{frame-says, frame-reads}
 use Rattle.records.proofs.Codes.{at, first}
 use Rattle.records.proofs.CodedFields.{word-coded, name-coded, package-closed, values-closed, dependency-closed}
 use Rattle.graph.specs.Keys.{Key, has_key}
-use Rattle.graph.specs.Reading.{Content, header, heads, declaration, end, Cursor, kind_here, below, as_content, fresh, feature_field, content_as, content_of, ReadRecord, with_content, with_frame, after, Rest, Reading, carried, on_found, scan}
+use Rattle.graph.specs.Reading.{Content, header, package_head, declaration, end, Cursor, kind_here, if_room, as_content, new_name, feature_field, content_as, content_of, ReadRecord, with_content, with_frame, cursor_after, Rest, Reading, with_record, after_record, scan}
 use Rattle.graph.specs.Limits.{max_packages, max_dependencies, max_features}
 use Rattle.graph.proofs.Scans.{scan-open}
 
 -- what a record says may stand here
 abbrev pub Allowed : Cursor → Content → Type 0
 Allowed st header = st.number ≡ 0
-Allowed st (heads h) = (0 < st.number) × (st.packages < max_packages) × Name h.name
+Allowed st (package_head h) = (0 < st.number) × (st.packages < max_packages) × Name h.name
 Allowed st (declaration (dependency d)) = (0 < st.number) × (0 < st.packages) × (st.dependencies < max_dependencies) × LawfulDependency d
 Allowed st (declaration (feature f)) = (0 < st.number) × (0 < st.packages) × (length st.keys < max_features) × (has_key (st.packages - 1) f.name st.keys ≡ false) × LawfulFeature f
 Allowed st end = 0 < st.number
@@ -35,14 +35,14 @@ Allowed st end = 0 < st.number
 -- the kind and the body of its record
 abbrev pub kind_of : Content → ℕ
 kind_of header = 1
-kind_of (heads h) = 2
+kind_of (package_head h) = 2
 kind_of (declaration (dependency d)) = 3
 kind_of (declaration (feature f)) = 4
 kind_of end = 5
 
 abbrev pub body_of : Content → List ℕ
 body_of header = two 1
-body_of (heads h) = package_body h.proc h.name
+body_of (package_head h) = package_body h.proc h.name
 body_of (declaration (dependency d)) = dependency_body d
 body_of (declaration (feature f)) = feature_body f
 body_of end = []
@@ -77,7 +77,7 @@ as-content f (Ok p) c e = (p.0, p.1, refl, in-ok (f p.0) c e)
 as-content f (Err x) c e = absurd (not-both e)
 
 -- a record that was read is within its limit
-below-ok : {B : Type 0} (n limit : ℕ) (r : Result B RecordFault) (b : B) → below n limit r ≡ Ok b → (n < limit) × (r ≡ Ok b)
+below-ok : {B : Type 0} (n limit : ℕ) (r : Result B RecordFault) (b : B) → if_room n limit r ≡ Ok b → (n < limit) × (r ≡ Ok b)
 below-ok {B} n limit r b e = go (leb limit n) refl e
   where
     go : (t : Bool) → leb limit n ≡ t → cond t (Err Many) r ≡ Ok b → (n < limit) × (r ≡ Ok b)
@@ -124,7 +124,7 @@ dependency-reads d k law =
     (s.0, ap (λ z. dependency_field (at (asks_last d z) k)) (sym (append-nil (list_bytes string d.asks))) ∙ s.1)
 
 module _ (keys : List Key) (owner : ℕ) where
-  fresh_ok : (name : Piece) (v : View) (a : Unit {0}) (w : View) → fresh keys owner name v ≡ Ok (a, w) → (has_key owner name.text keys ≡ false) × (v ≡ w)
+  fresh_ok : (name : Piece) (v : View) (a : Unit {0}) (w : View) → new_name keys owner name v ≡ Ok (a, w) → (has_key owner name.text keys ≡ false) × (v ≡ w)
   fresh_ok name v a w e = go (has_key owner name.text keys) refl e
     where
       go : (t : Bool) → has_key owner name.text keys ≡ t → ◌≡◌ {A = Result (Unit {0} × View) RecordFault} (cond t (Err (Twice name.place)) (Ok (tt, v))) (Ok (a, w)) → (has_key owner name.text keys ≡ false) × (v ≡ w)
@@ -135,14 +135,14 @@ module _ (keys : List Key) (owner : ℕ) where
   after_fresh name _ v = on_ok (values_field v) (λ values. give (record { name = name.text; values = values }))
 
   abbrev after_name : Piece → View → Result (Feature × View) RecordFault
-  after_name name v = on_ok (fresh keys owner name v) (after_fresh name)
+  after_name name v = on_ok (new_name keys owner name v) (after_fresh name)
 
   feature-says : (bs : List ℕ) (k : ℕ) (f : Feature) (w : View) → Bytes bs → feature_field keys owner (at bs k) ≡ Ok (f, w) → (has_key owner f.name keys ≡ false) × LawfulFeature f × (bs ≡ feature_body f)
   feature-says bs k f w fit e =
       let h = first (name_field (at bs k)) after_name f w e in
       let n : Piece = h.0 in
       let c = name-coded.sound bs k n.text h.1 fit (ap (λ r. on_ok r (λ p. give p.text)) h.2) in
-      let u = first (fresh keys owner n h.1) (after_fresh n) f w h.3 in
+      let u = first (new_name keys owner n h.1) (after_fresh n) f w h.3 in
       let o = fresh_ok n h.1 u.0 u.1 u.2 in
       let x = first (values_field u.1) (λ values. give (record { name = n.text; values = values })) f w u.3 in
       let left : Bytes u.1.left = subst (λ v. Bytes v.left) o.1 (bytes-split (string n.text) h.1.left (subst Bytes c.1 fit)).1 in
@@ -153,7 +153,7 @@ module _ (keys : List Key) (owner : ℕ) where
       subst (λ y. (has_key owner y.name keys ≡ false) × LawfulFeature y × (bs ≡ feature_body y)) q (o.0, (c.0, s.1.0.0, s.1.0.1), all)
 
   -- its name, that it is a new one, and its values make a feature
-  feature-from : (f : Feature) (v : View) (n : Piece) (w x y : View) → name_field v ≡ Ok (n, w) → fresh keys owner n w ≡ Ok (tt, w) → w ≡ x → values_field x ≡ Ok (f.values, y) → n.text ≡ f.name → feature_field keys owner v ≡ Ok (f, y)
+  feature-from : (f : Feature) (v : View) (n : Piece) (w x y : View) → name_field v ≡ Ok (n, w) → new_name keys owner n w ≡ Ok (tt, w) → w ≡ x → values_field x ≡ Ok (f.values, y) → n.text ≡ f.name → feature_field keys owner v ≡ Ok (f, y)
   feature-from f v n w x y named new on values text =
       ap (λ r. on_ok r after_name) named
       ∙ ap (λ r. on_ok r (after_fresh n)) new
@@ -172,7 +172,7 @@ module _ (keys : List Key) (owner : ℕ) where
       let t : n.text ≡ f.name = ap (λ p. p.0) q in
       let v : h.1 ≡ at rest j = ap (λ p. p.1) q in
       let s = values-closed.complete f.values j tt ((law.1, law.2), tt) in
-      let y : fresh keys owner n h.1 ≡ Ok (tt, h.1) = cond-false _ _ _ (ap (λ z. has_key owner z keys) t ∙ new) in
+      let y : new_name keys owner n h.1 ≡ Ok (tt, h.1) = cond-false _ _ _ (ap (λ z. has_key owner z keys) t ∙ new) in
       (s.0, feature-from f (at (feature_body f) k) n h.1 (at (rest ++ []) j) s.0 h.2 y (v ∙ ap (λ z. at z j) (sym (append-nil rest))) s.1 t)
 
 -- what is read is allowed, and has just its kind and body
@@ -188,8 +188,8 @@ module _ (st : Cursor) (k : ℕ) (body : List ℕ) (fit : Bytes body) (c : Conte
       subst (Tells st k body) r.3 (z.0, z.1, header-says body 6 r.0 r.1 fit r.2)
   kind-says (Some kind.Package) e h =
       let z = kind_fits st.number st.packages k kind.Package e in
-      let b = below-ok st.packages max_packages (as_content heads (package_field (at body 6))) c h in
-      let r = as-content heads (package_field (at body 6)) c b.1 in
+      let b = below-ok st.packages max_packages (as_content package_head (package_field (at body 6))) c h in
+      let r = as-content package_head (package_field (at body 6)) c b.1 in
       let s = package-says body 6 r.0 r.1 fit r.2 in
       subst (Tells st k body) r.3 ((z.0, b.0, s.0), z.1, s.1)
   kind-says (Some kind.Dependency) e h =
@@ -212,12 +212,12 @@ module _ (st : Cursor) (k : ℕ) (body : List ℕ) (fit : Bytes body) (c : Conte
 -- what is allowed is read from its kind and body
 content-reads : (st : Cursor) (c : Content) → Allowed st c → content_as (kind_here st.number st.packages (kind_of c)) st (at (body_of c) 6) ≡ Ok c
 content-reads st header a = ap (λ n. content_as (kind_here n st.packages 1) st (at (two 1) 6)) a
-content-reads st (heads h) a =
+content-reads st (package_head h) a =
     let n : eqb st.number 0 ≡ false = ne_eqb st.number 0 (λ z. omega (arith, a.0)) in
     let k : kind_here st.number st.packages 2 ≡ Some kind.Package = cond-false _ _ _ n in
-    ap (λ o. content_as o st (at (body_of (heads h)) 6)) k
+    ap (λ o. content_as o st (at (body_of (package_head h)) 6)) k
     ∙ cond-false _ _ _ (lt-leb max_packages st.packages a.1)
-    ∙ ap (as_content heads) (package-reads h 6 a.2).1
+    ∙ ap (as_content package_head) (package-reads h 6 a.2).1
 content-reads st (declaration (dependency d)) a =
     let n : eqb st.number 0 ≡ false = ne_eqb st.number 0 (λ z. omega (arith, a.0)) in
     let p : eqb st.packages 0 ≡ false = ne_eqb st.packages 0 (λ z. omega (arith, a.1)) in
@@ -246,7 +246,7 @@ content_bytes c = record_bytes (kind_of c) (body_of c)
 
 -- what a reading makes of a content and of the bytes behind it
 abbrev pub onward : Cursor → Content → List ℕ → Reading
-onward st c rest = carried st (found c rest) c (scan (after st (found c rest)) rest)
+onward st c rest = with_record st (found c rest) c (scan (cursor_after st (found c rest)) rest)
 
 body_bytes : (k : ℕ) (body rest : List ℕ) → Bytes (record_bytes k body ++ rest) → Bytes body
 body_bytes k body rest b =
@@ -258,7 +258,7 @@ body_bytes k body rest b =
 pub scan-says : (st : Cursor) (bs : List ℕ) (p : Rest × ℕ) → Bytes bs → scan st bs ≡ Ok p → (c : Content) × (rest : List ℕ) × Allowed st c × (bs ≡ content_bytes c ++ rest) × (onward st c rest ≡ Ok p)
 scan-says st bs p fit e = go (frame_of bs) refl (sym (scan-open st bs) ∙ e)
   where
-    inner : (f : Frame) → bs ≡ record_bytes f.kind f.body ++ f.after → (r : Result Content RecordFault) → content_of st f ≡ r → on_found st scan (with_content st f r) ≡ Ok p → (c : Content) × (rest : List ℕ) × Allowed st c × (bs ≡ content_bytes c ++ rest) × (onward st c rest ≡ Ok p)
+    inner : (f : Frame) → bs ≡ record_bytes f.kind f.body ++ f.after → (r : Result Content RecordFault) → content_of st f ≡ r → after_record st scan (with_content st f r) ≡ Ok p → (c : Content) × (rest : List ℕ) × Allowed st c × (bs ≡ content_bytes c ++ rest) × (onward st c rest ≡ Ok p)
     inner f s (Err x) q h = absurd (not-both h)
     inner f s (Ok c) q h =
         let t = kind-says st f.kind f.body (body_bytes f.kind f.body f.after (subst Bytes s fit)) c (kind_here st.number st.packages f.kind) refl q in
@@ -267,10 +267,10 @@ scan-says st bs p fit e = go (frame_of bs) refl (sym (scan-open st bs) ∙ e)
           f.after,
           t.0,
           s ∙ (λ i. record_bytes (t.1 i) (t.2 i) ++ f.after),
-          ap (λ g. on_found st scan (Ok (record { content = c; frame = g }))) (sym x) ∙ h,
+          ap (λ g. after_record st scan (Ok (record { content = c; frame = g }))) (sym x) ∙ h,
         )
 
-    go : (r : Result Frame RecordFault) → frame_of bs ≡ r → on_found st scan (with_frame st r) ≡ Ok p → (c : Content) × (rest : List ℕ) × Allowed st c × (bs ≡ content_bytes c ++ rest) × (onward st c rest ≡ Ok p)
+    go : (r : Result Frame RecordFault) → frame_of bs ≡ r → after_record st scan (with_frame st r) ≡ Ok p → (c : Content) × (rest : List ℕ) × Allowed st c × (bs ≡ content_bytes c ++ rest) × (onward st c rest ≡ Ok p)
     go (Err x) q h = absurd (not-both h)
     go (Ok f) q h = inner f (frame-says bs f fit q) (content_of st f) refl h
 
@@ -278,5 +278,5 @@ scan-says st bs p fit e = go (frame_of bs) refl (sym (scan-open st bs) ∙ e)
 pub scan-reads : (st : Cursor) (c : Content) (rest : List ℕ) → Allowed st c → scan st (content_bytes c ++ rest) ≡ onward st c rest
 scan-reads st c rest a =
     scan-open st (content_bytes c ++ rest)
-    ∙ ap (λ r. on_found st scan (with_frame st r)) (frame-reads (kind_of c) (body_of c) rest)
-    ∙ ap (λ r. on_found st scan (with_content st (found c rest).frame r)) (content-reads st c a)
+    ∙ ap (λ r. after_record st scan (with_frame st r)) (frame-reads (kind_of c) (body_of c) rest)
+    ∙ ap (λ r. after_record st scan (with_content st (found c rest).frame r)) (content-reads st c a)

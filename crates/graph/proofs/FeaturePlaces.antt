@@ -1,10 +1,12 @@
 -- A feature's number in the index tells its place in its package.
-use Rattle.std.proofs.Common.{◌≡◌, ℕ, zero, suc, ◌+◌, ◌-◌, ◌<◌, ◌≤◌, true, false, ◌&&◌, eqb, List, [], ◌∷◌, ◌++◌, length, get_or, Some, None, Option, sym, refl, ap, ◌∙◌, ⊎_elim, arith, option_map}
+use Rattle.std.proofs.Common.{◌≡◌, ℕ, zero, suc, ◌+◌, ◌-◌, ◌<◌, ◌≤◌, Bool, true, false, cond, ◌&&◌, eqb, ltb, List, [], ◌∷◌, ◌++◌, length, get_or, is_some, Some, None, Option, sym, refl, ap, ◌∙◌, ⊎_elim, arith, option_map}
 use Rattle.std.proofs.ByRecursion.{All-get_or}
 use Rattle.std.proofs.lemmas.Slice.Eq.{bytes_eq-Decides}
+use Rattle.std.proofs.lemmas.List.Quantifiers.{position-Some}
+use Rattle.std.proofs.lemmas.List.Sums.{position_or_len_is, fails_before_first}
 use Rattle.std.proofs.lemmas.List.{length-append, get_or_append_left, get_or-append-add}
-use Rattle.std.proofs.lemmas.Bool.{cond-true, cond-false, eqb-true, eq-eqb, and_parts, cases_Bool, cases_lt}
-use Rattle.std.specs.List.{AllByRecursion}
+use Rattle.std.proofs.lemmas.Bool.{cond-true, cond-false, lt-ltb, le-ltb, eqb-true, eq-eqb, and_parts, cases_Bool, cases_lt}
+use Rattle.std.specs.List.{AllByRecursion, position_or_len}
 use Rattle.std.specs.Str.{bytes_eq}
 use Rattle.records.specs.Graphs.{Feature, Declaration, dependency, feature, Graph}
 use Rattle.graph.specs.declared.index.IndexEntry.{IndexEntry}
@@ -12,12 +14,9 @@ use Rattle.graph.specs.Keys.{Key, is_key}
 use Rattle.graph.specs.Buckets.{key_of, blank, entry_at, keys_of}
 use Rattle.graph.specs.Law.{features_in, dependency_count, Differ, LawfulPackage}
 use Rattle.graph.specs.Gathered.{keys_in, keys_from}
-use Rattle.graph.specs.Places.{feat, features_of, features_before, number}
-use Rattle.graph.specs.Rules.{later, place_of}
+use Rattle.graph.specs.Places.{feat, features_of, features_before, number, no_feature}
+use Rattle.graph.specs.Rules.{place_of}
 use Rattle.graph.proofs.Links.{Finds, keys_length, keys-at}
-
-abbrev no_feature : Feature
-no_feature = record { name = []; values = [] }
 
 in-length : (p : ℕ) (ps : List Declaration) → length (keys_in p ps) ≡ length (features_in ps)
 in-length p [] = refl
@@ -91,23 +90,48 @@ key-of p (a ∷ g) q k d l e =
         let h = more r z in
         (h.0, h.1, omega (arith, h.2, in-length p a.declarations))
 
+-- the test that finds a name among features; a name found at two places is one of features that do not differ
+abbrev named : List ℕ → Feature → Bool
+named n f = bytes_eq f.name n
+
+differ-before : (fs : List Feature) (n : List ℕ) (k j : ℕ) → k < j → j < length fs → Differ fs → (get_or fs k no_feature).name ≡ n → (get_or fs j no_feature).name ≡ n → ⊥
+differ-before [] n k j below l d e m = absurd (omega arith)
+differ-before (f ∷ fs) n k zero below l d e m = absurd (omega arith)
+differ-before (f ∷ fs) n zero (suc j) below l d e m = All-get_or (λ h. h.name ≡ f.name → ⊥) fs j no_feature (omega arith) d.0 (m ∙ sym e)
+differ-before (f ∷ fs) n (suc k) (suc j) below l d e m = differ-before fs n k j (omega arith) (omega arith) d.1 e m
+
 -- the place of a name among features that differ
 pub place-some : (fs : List Feature) (n : List ℕ) (j : ℕ) → j < length fs → bytes_eq (get_or fs j no_feature).name n ≡ true → Differ fs → place_of fs n ≡ Some j
-place-some [] n j l e d = absurd (omega arith)
-place-some (f ∷ fs) n zero l e d = cond-true _ _ _ e
-place-some (f ∷ fs) n (suc j) l e d =
-    let other : bytes_eq f.name n ≡ false = ⊎_elim
-    (λ (t : bytes_eq f.name n ≡ true).
-    let a : f.name ≡ n = (bytes_eq-Decides f.name n).0 t in
-    let b : (get_or fs j no_feature).name ≡ n = (bytes_eq-Decides (get_or fs j no_feature).name n).0 e in
-    absurd (All-get_or (λ h. h.name ≡ f.name → ⊥) fs j no_feature (omega arith) d.0 (b ∙ sym a)))
-    (λ (t : bytes_eq f.name n ≡ false). t)
-    (cases_Bool (bytes_eq f.name n)) in
-    cond-false _ _ _ other ∙ ap later (place-some fs n j (omega arith) e d.1)
+place-some fs n j l e d =
+    let first : position_or_len (named n) fs ≡ j = position_or_len_is (named n) fs j no_feature (omega arith)
+    (λ k below. ⊎_elim
+    (λ (t : named n (get_or fs k no_feature) ≡ true). absurd (differ-before fs n k j below l d ((bytes_eq-Decides (get_or fs k no_feature).name n).0 t) ((bytes_eq-Decides (get_or fs j no_feature).name n).0 e)))
+    (λ (t : named n (get_or fs k no_feature) ≡ false). t)
+    (cases_Bool (named n (get_or fs k no_feature))))
+    (λ _. e) in
+    ap (λ i. cond (ltb i (length fs)) (Some i) None) first ∙ cond-true _ _ _ (lt-ltb j (length fs) l)
 
 pub place_none : (fs : List Feature) (n : List ℕ) → ((j : ℕ) → j < length fs → bytes_eq (get_or fs j no_feature).name n ≡ false) → place_of fs n ≡ None
-place_none [] n h = refl
-place_none (f ∷ fs) n h = cond-false _ _ _ (h 0 (omega arith)) ∙ ap later (place_none fs n (λ j l. h (suc j) (omega arith)))
+place_none fs n h =
+    let first : position_or_len (named n) fs ≡ length fs = position_or_len_is (named n) fs (length fs) no_feature (omega arith) (λ k l. h k l) (λ l. absurd (omega arith)) in
+    ap (λ i. cond (ltb i (length fs)) (Some i) None) first ∙ cond-false _ _ _ (le-ltb (length fs) (length fs) (omega arith))
+
+-- a place that a name has among features is that of a feature of this name
+pub place-name : (fs : List Feature) (n : List ℕ) (j : ℕ) → place_of fs n ≡ Some j → (j < length fs) × ((get_or fs j no_feature).name ≡ n)
+place-name fs n j e =
+    let h = position-Some (named n) fs j no_feature e in
+    (h.0, (bytes_eq-Decides (get_or fs j no_feature).name n).0 h.1)
+
+-- a name that a feature has, has a place
+pub name-placed : (fs : List Feature) (n : List ℕ) (j : ℕ) → j < length fs → (get_or fs j no_feature).name ≡ n → is_some (place_of fs n) ≡ true
+name-placed fs n j l e =
+    ⊎_elim
+    (λ (m : position_or_len (named n) fs < length fs). ap is_some (cond-true _ _ _ (lt-ltb (position_or_len (named n) fs) (length fs) m)))
+    (λ (m : length fs ≤ position_or_len (named n) fs). absurd (true-false (sym ((bytes_eq-Decides (get_or fs j no_feature).name n).1 e) ∙ fails_before_first (named n) fs j no_feature (omega arith))))
+    (cases_lt (position_or_len (named n) fs) (length fs))
+  where
+    true-false : true ≡ false → ⊥
+    true-false h = let z : ◌≡◌ {A = ℕ} 0 1 = cc in omega arith
 
 pub features-differ : (g : Graph) (q : ℕ) → AllByRecursion LawfulPackage g → Differ (features_of g q)
 features-differ [] q l = tt

@@ -10,7 +10,7 @@ use Rattle.graph.specs.Depending.{Depending, depending, Indexed}
 use Rattle.graph.specs.Directory.{Tells, no_package, no_declaration_entry, no_depending, no_place}
 use Rattle.graph.specs.RowLists.{its, ReadsAs, PlacedAs}
 use Rattle.graph.specs.Law.{dependency_count, feature_count}
-use Rattle.graph.specs.Places.{feat, dependencies_of, features_of, proc_of, number, dependencies_before, features_before, no_dependency, no_feature}
+use Rattle.graph.specs.Places.{feat, dependencies_of, features_of, package_at, number, dependencies_before, features_before, no_dependency, no_feature}
 use Rattle.graph.specs.Buckets.{past, newest_of, IsEntry}
 use Rattle.graph.specs.Namesakes.{among_from, namesakes}
 use Rattle.graph.specs.Rules.{place_of}
@@ -61,7 +61,7 @@ module _ (x : Filled) where
   pub dependency-read : (p k : ℕ) → k < length (dependencies_of graph p) → ReadsAs x (get_or dir.dependencies (dependencies_before graph p + k) 0) (dependency (get_or (dependencies_of graph p) k no_dependency))
   dependency-read p k l = from-tables (option-set _ _) (λ t. stands-reads _ _ _ (t.depending p k l))
 
-  pub mark-told : (p : ℕ) → p < length graph → (get_or dir.packages p no_package).proc_mark ≡ proc_of graph p
+  pub mark-told : (p : ℕ) → p < length graph → (get_or dir.packages p no_package).proc_mark ≡ (package_at graph p).proc
   mark-told p l = from-tables (hlevel props) (λ t. ap (λ e. e.proc_mark) (t.packaged p l))
 
   -- dependency k of all

@@ -4,7 +4,7 @@ use Rattle.std.proofs.lemmas.List.{length-append}
 use Rattle.std.proofs.lemmas.Bool.{cond-false, le-ltb}
 use Rattle.records.specs.Graphs.{Declaration, dependency, feature, Graph}
 use Rattle.records.specs.Encoding.{encode}
-use Rattle.graph.specs.Reading.{Content, header, heads, declaration, end, Cursor, begin, after, on_rest, scan, graph_in, first_reading}
+use Rattle.graph.specs.Reading.{Content, header, package_head, declaration, end, Cursor, first_cursor, cursor_after, on_rest, scan, graph_in, first_reading}
 use Rattle.graph.specs.Limits.{max_bytes}
 use Rattle.graph.specs.Law.{Says}
 use Rattle.graph.proofs.Allowances.{body_of, content_bytes, found, scan-reads}
@@ -30,7 +30,7 @@ module _ (gs : Graph) (rest : List ℕ) (next : Complete [] gs rest) where
       let more : List ℕ = tail_bytes ps gs rest in
       let q = dependency-may st.packages st.dependencies st.keys x ps gs m in
       let same : tail_bytes (dependency x ∷ ps) gs rest ≡ content_bytes c ++ more = part-bytes (dependency x) ps gs rest in
-      let d : Done (after st (found c more)) ps gs rest = parts-complete ps (after st (found c more)) (omega arith) own q.3 in
+      let d : Done (cursor_after st (found c more)) ps gs rest = parts-complete ps (cursor_after st (found c more)) (omega arith) own q.3 in
       ap (scan st) same
       ∙ scan-reads st c more (num, q.0, q.1, q.2)
       ∙ ap (on_rest (λ l. record { declarations = dependency x ∷ l.declarations; packages = l.packages })) (d n (place-on c (tail_bytes (dependency x ∷ ps) gs rest) more rest st.start n same h))
@@ -39,7 +39,7 @@ module _ (gs : Graph) (rest : List ℕ) (next : Complete [] gs rest) where
       let more : List ℕ = tail_bytes ps gs rest in
       let q = feature-may st.packages st.dependencies st.keys x ps gs own m in
       let same : tail_bytes (feature x ∷ ps) gs rest ≡ content_bytes c ++ more = part-bytes (feature x) ps gs rest in
-      let d : Done (after st (found c more)) ps gs rest = parts-complete ps (after st (found c more)) (omega arith) q.5 q.4 in
+      let d : Done (cursor_after st (found c more)) ps gs rest = parts-complete ps (cursor_after st (found c more)) (omega arith) q.5 q.4 in
       ap (scan st) same
       ∙ scan-reads st c more (num, q.0, q.1, q.2, q.3)
       ∙ ap (on_rest (λ l. record { declarations = feature x ∷ l.declarations; packages = l.packages })) (d n (place-on c (tail_bytes (feature x ∷ ps) gs rest) more rest st.start n same h))
@@ -49,18 +49,18 @@ packages-complete rest [] st num own m n h =
     let z : st.start + 6 ≡ n = omega arith in
     scan-reads st end rest num ∙ ap (λ k. Ok (record { declarations = []; packages = [] }, k)) z
 packages-complete rest (g ∷ gs) st num own m n h =
-    let c : Content = heads (record { proc = g.proc; name = g.name }) in
+    let c : Content = package_head (record { proc = g.proc; name = g.name }) in
     let more : List ℕ = tail_bytes g.declarations gs rest in
     let q = heads-may st.packages st.dependencies st.keys g gs own m in
     let bs : List ℕ = tail_bytes [] (g ∷ gs) rest in
     let same : bs ≡ content_bytes c ++ more = package-bytes (content_bytes c) g.declarations gs rest in
-    let d : Done (after st (found c more)) g.declarations gs rest = parts-complete gs rest (packages-complete rest gs) g.declarations (after st (found c more)) (omega arith) q.3 q.2 in
+    let d : Done (cursor_after st (found c more)) g.declarations gs rest = parts-complete gs rest (packages-complete rest gs) g.declarations (cursor_after st (found c more)) (omega arith) q.3 q.2 in
     ap (scan st) same
     ∙ scan-reads st c more (num, q.0, q.1)
     ∙ ap (on_rest (λ l. record { declarations = []; packages = record { proc = g.proc; name = g.name; declarations = l.declarations } ∷ l.packages })) (d n (place-on c bs more rest st.start n same h))
 
 -- a file that says a graph is read
-pub scan-complete : (file : List ℕ) (g : Graph) → Says file g → scan begin file ≡ Ok (record { declarations = []; packages = g }, length (encode g))
+pub scan-complete : (file : List ℕ) (g : Graph) → Says file g → scan first_cursor file ≡ Ok (record { declarations = []; packages = g }, length (encode g))
 scan-complete file g s =
     let more : List ℕ = tail_bytes [] g s.rest in
     let same : file ≡ content_bytes header ++ more = s.bytes ∙ graph-bytes g s.rest in
@@ -75,8 +75,8 @@ scan-complete file g s =
       few_features = omega (arith, s.lawful.few_features);
     } in
     let h : length (encode g) + length s.rest ≡ 8 + length more = omega (arith, ap length (graph-bytes g s.rest), length-append (encode g) s.rest) in
-    let d : Done (after begin (found header more)) [] g s.rest = packages-complete s.rest g (after begin (found header more)) (omega arith) tt m in
-    ap (scan begin) same ∙ scan-reads begin header more refl ∙ d (length (encode g)) h
+    let d : Done (cursor_after first_cursor (found header more)) [] g s.rest = packages-complete s.rest g (cursor_after first_cursor (found header more)) (omega arith) tt m in
+    ap (scan first_cursor) same ∙ scan-reads first_cursor header more refl ∙ d (length (encode g)) h
 
 pub first-complete : (file : List ℕ) (g : Graph) → Says file g → first_reading file ≡ Ok (g, length (encode g))
 first-complete file g s = cond-false _ _ _ (le-ltb max_bytes (length file) s.size) ∙ ap graph_in (scan-complete file g s)

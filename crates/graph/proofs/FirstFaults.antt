@@ -19,7 +19,7 @@ use Rattle.graph.specs.declared.faults.FileFault.TheVariants.{Record, Size, Rows
 use Rattle.graph.specs.OpeningLaw.{Behind}
 use Rattle.graph.specs.Keys.{Key, has_key}
 use Rattle.graph.specs.Limits.{max_packages, max_dependencies, max_features}
-use Rattle.graph.specs.Reading.{Content, header, heads, declaration, end, Cursor, ReadRecord, Rest, Reading, begin, kind_here, as_content, fresh, feature_field, content_as, content_of, with_content, with_frame, record_at, after, on_rest, carried, on_found, one_record, at_most, scan}
+use Rattle.graph.specs.Reading.{Content, header, package_head, declaration, end, Cursor, ReadRecord, Rest, Reading, first_cursor, kind_here, as_content, new_name, feature_field, content_as, content_of, with_content, with_frame, record_at, cursor_after, on_rest, with_record, after_record, scan_one, scan_at_most, scan}
 
 -- a fault of a record that the first reading may find
 abbrev pub Early : RecordFault → Type 0
@@ -120,7 +120,7 @@ fine-dependency =
 fine-feature : (keys : List Key) (owner : ℕ) → FineField (feature_field keys owner)
 fine-feature keys owner =
     fine-then name_field _ fine-name (λ name.
-    fine-then (fresh keys owner name) _ (λ v. fine-cond (has_key owner name.text keys) _ _ tt tt) (λ u.
+    fine-then (new_name keys owner name) _ (λ v. fine-cond (has_key owner name.text keys) _ _ tt tt) (λ u.
     fine-then values_field _ fine-values (λ values v. tt)))
 
 -- a record
@@ -181,23 +181,23 @@ fine-rest : (F : Rest → Rest) (r : Reading) → FineReading r → FineReading 
 fine-rest F (Ok p) h = tt
 fine-rest F (Err e) h = h
 
-fine-carried : (st : Cursor) (x : ReadRecord) (c : Content) (r : Reading) → FineReading r → FineReading (carried st x c r)
+fine-carried : (st : Cursor) (x : ReadRecord) (c : Content) (r : Reading) → FineReading r → FineReading (with_record st x c r)
 fine-carried st x header r h = h
-fine-carried st x (heads y) r h = fine-rest _ r h
+fine-carried st x (package_head y) r h = fine-rest _ r h
 fine-carried st x (declaration p) r h = fine-rest _ r h
 fine-carried st x end r h = tt
 
-fine-one : (k : Cursor → List ℕ → Reading) → ((st : Cursor) (bs : List ℕ) → FineReading (k st bs)) → (st : Cursor) (bs : List ℕ) → FineReading (one_record k st bs)
+fine-one : (k : Cursor → List ℕ → Reading) → ((st : Cursor) (bs : List ℕ) → FineReading (k st bs)) → (st : Cursor) (bs : List ℕ) → FineReading (scan_one k st bs)
 fine-one k h st bs = go (record_at st bs) (fine-record st bs)
   where
-    go : (r : Result ReadRecord InRecord) → FineRecord r → FineReading (on_found st k r)
-    go (Ok x) q = fine-carried st x x.content (k (after st x) x.frame.after) (h (after st x) x.frame.after)
+    go : (r : Result ReadRecord InRecord) → FineRecord r → FineReading (after_record st k r)
+    go (Ok x) q = fine-carried st x x.content (k (cursor_after st x) x.frame.after) (h (cursor_after st x) x.frame.after)
     go (Err e) q = q
 
-fine-most : (n : ℕ) (st : Cursor) (bs : List ℕ) → FineReading (at_most n st bs)
-unfolding at_most
+fine-most : (n : ℕ) (st : Cursor) (bs : List ℕ) → FineReading (scan_at_most n st bs)
+unfolding scan_at_most
 fine-most zero st bs = tt
-fine-most (suc n) st bs = fine-one (at_most n) (fine-most n) st bs
+fine-most (suc n) st bs = fine-one (scan_at_most n) (fine-most n) st bs
 
 fine-scan : (st : Cursor) (bs : List ℕ) → FineReading (scan st bs)
 unfolding scan
@@ -221,7 +221,7 @@ stays : (st : Cursor) (bs : List ℕ) → Onward st bs st.number st.start
 stays st bs = record { records = []; rest = bs; bytes = refl; number_is = omega arith; start_is = omega arith }
 
 -- one record more in front
-behind-one : (st : Cursor) (c : Content) (bs : List ℕ) (f : Frame) (number start : ℕ) → bs ≡ record_bytes f.kind f.body ++ f.after → Onward (after st (record { content = c; frame = f })) f.after number start → Onward st bs number start
+behind-one : (st : Cursor) (c : Content) (bs : List ℕ) (f : Frame) (number start : ℕ) → bs ≡ record_bytes f.kind f.body ++ f.after → Onward (cursor_after st (record { content = c; frame = f })) f.after number start → Onward st bs number start
 behind-one st c bs f number start e o =
     let own : List ℕ = record_bytes f.kind f.body in
     let more : List ℕ = flat_map (λ r. record_bytes r.0 r.1) o.records in
@@ -238,9 +238,9 @@ rest-refused : (F : Rest → Rest) (r : Reading) (x : InRecord) → on_rest F r 
 rest-refused F (Ok p) x e = absurd (not-both (sym e))
 rest-refused F (Err y) x e = ap (λ z. Err z) (in-err _ _ e)
 
-carried-refused : (st : Cursor) (f : ReadRecord) (c : Content) (r : Reading) (x : InRecord) → carried st f c r ≡ Err (Record x) → r ≡ Err (Record x)
+carried-refused : (st : Cursor) (f : ReadRecord) (c : Content) (r : Reading) (x : InRecord) → with_record st f c r ≡ Err (Record x) → r ≡ Err (Record x)
 carried-refused st f header r x e = e
-carried-refused st f (heads y) r x e = rest-refused _ r x e
+carried-refused st f (package_head y) r x e = rest-refused _ r x e
 carried-refused st f (declaration p) r x e = rest-refused _ r x e
 carried-refused st f end r x e = absurd (not-both (sym e))
 
@@ -248,30 +248,30 @@ of_record : (x y : InRecord) → ◌≡◌ {A = Reading} (Err (Record x)) (Err (
 of_record x y e = cc
 
 module _ (k : Cursor → List ℕ → Reading) (ih : (st : Cursor) (bs : List ℕ) (x : InRecord) → Bytes bs → k st bs ≡ Err (Record x) → OnwardAt st bs x) (st : Cursor) (bs : List ℕ) (x : InRecord) (fit : Bytes bs) where
-  by_frame : (f : Frame) → frame_of bs ≡ Ok f → (r : Result Content RecordFault) → on_found st k (with_content st f r) ≡ Err (Record x) → OnwardAt st bs x
+  by_frame : (f : Frame) → frame_of bs ≡ Ok f → (r : Result Content RecordFault) → after_record st k (with_content st f r) ≡ Err (Record x) → OnwardAt st bs x
   by_frame f q (Err e) h = subst (OnwardAt st bs) (of_record _ _ h) (stays st bs)
   by_frame f q (Ok c) h =
       let says = frame-says bs f fit q in
       let y : ReadRecord = record { content = c; frame = f } in
-      behind-one st c bs f x.number x.start says (ih (after st y) f.after x (bytes-split (record_bytes f.kind f.body) f.after (subst Bytes says fit)).1 (carried-refused st y c _ x h))
+      behind-one st c bs f x.number x.start says (ih (cursor_after st y) f.after x (bytes-split (record_bytes f.kind f.body) f.after (subst Bytes says fit)).1 (carried-refused st y c _ x h))
 
-  behind-record : on_found st k (record_at st bs) ≡ Err (Record x) → OnwardAt st bs x
+  behind-record : after_record st k (record_at st bs) ≡ Err (Record x) → OnwardAt st bs x
   behind-record h = go (frame_of bs) refl h
     where
-      go : (r : Result Frame RecordFault) → frame_of bs ≡ r → on_found st k (with_frame st r) ≡ Err (Record x) → OnwardAt st bs x
+      go : (r : Result Frame RecordFault) → frame_of bs ≡ r → after_record st k (with_frame st r) ≡ Err (Record x) → OnwardAt st bs x
       go (Ok f) q e = by_frame f q (content_of st f) e
       go (Err y) q e = subst (OnwardAt st bs) (of_record _ _ e) (stays st bs)
 
-behind-most : (n : ℕ) (st : Cursor) (bs : List ℕ) (x : InRecord) → Bytes bs → at_most n st bs ≡ Err (Record x) → OnwardAt st bs x
-unfolding at_most
+behind-most : (n : ℕ) (st : Cursor) (bs : List ℕ) (x : InRecord) → Bytes bs → scan_at_most n st bs ≡ Err (Record x) → OnwardAt st bs x
+unfolding scan_at_most
 behind-most zero st bs x fit e = subst (OnwardAt st bs) (of_record _ _ e) (stays st bs)
-behind-most (suc n) st bs x fit e = behind-record (at_most n) (behind-most n) st bs x fit e
+behind-most (suc n) st bs x fit e = behind-record (scan_at_most n) (behind-most n) st bs x fit e
 
 behind-scan : (st : Cursor) (bs : List ℕ) (x : InRecord) → Bytes bs → scan st bs ≡ Err (Record x) → OnwardAt st bs x
 unfolding scan
 behind-scan st bs x fit e = behind-most (suc (length bs)) st bs x fit e
 
-pub first-behind : (file : List ℕ) (x : InRecord) → Bytes file → scan begin file ≡ Err (Record x) → Behind file x.number x.start
+pub first-behind : (file : List ℕ) (x : InRecord) → Bytes file → scan first_cursor file ≡ Err (Record x) → Behind file x.number x.start
 first-behind file x fit e =
-    let o = behind-scan begin file x fit e in
+    let o = behind-scan first_cursor file x fit e in
     record { records = o.records; rest = o.rest; bytes = o.bytes; number_is = omega (arith, o.number_is); start_is = omega (arith, o.start_is) }

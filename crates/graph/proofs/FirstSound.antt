@@ -6,7 +6,7 @@ use Rattle.records.specs.Graphs.{dependency, feature, Graph}
 use Rattle.records.specs.Encoding.{header_bytes, encode, Bytes}
 use Rattle.records.proofs.Numbers.{not-both, in-ok, bytes-split}
 use Rattle.graph.specs.declared.faults.FileFault.TheVariants.{Size}
-use Rattle.graph.specs.Reading.{Content, header, heads, declaration, end, Cursor, begin, after, Rest, Reading, on_rest, scan, graph_in, first_reading}
+use Rattle.graph.specs.Reading.{Content, header, package_head, declaration, end, Cursor, first_cursor, cursor_after, Rest, Reading, on_rest, scan, graph_in, first_reading}
 use Rattle.graph.specs.Limits.{max_bytes, max_packages, max_dependencies, max_features}
 use Rattle.graph.specs.Law.{Says}
 use Rattle.graph.proofs.Allowances.{Allowed, body_of, content_bytes, found, onward, scan-says}
@@ -39,24 +39,24 @@ content-length c rest bs e = omega (arith, ap length e, length-append (body_of c
 
 module _ (bs : List ℕ) (ih : (cs : List ℕ) → length cs < length bs → SoundAt cs) (st : Cursor) (l : Rest) (n : ℕ) (fit : Bytes bs) (num : 0 < st.number) (lim : Within st) where
   -- the same of what follows the first record
-  further : (c : Content) (rest : List ℕ) → bs ≡ content_bytes c ++ rest → Within (after st (found c rest)) → (m : Rest) → scan (after st (found c rest)) rest ≡ Ok (m, n) → Ahead (after st (found c rest)) rest m n
-  further c rest s w m h = ih rest (omega (arith, content-length c rest bs s)) (after st (found c rest)) m n (bytes-split (content_bytes c) rest (subst Bytes s fit)).1 (omega arith) w h
+  further : (c : Content) (rest : List ℕ) → bs ≡ content_bytes c ++ rest → Within (cursor_after st (found c rest)) → (m : Rest) → scan (cursor_after st (found c rest)) rest ≡ Ok (m, n) → Ahead (cursor_after st (found c rest)) rest m n
+  further c rest s w m h = ih rest (omega (arith, content-length c rest bs s)) (cursor_after st (found c rest)) m n (bytes-split (content_bytes c) rest (subst Bytes s fit)).1 (omega arith) w h
 
   by-content : (c : Content) (rest : List ℕ) → Allowed st c → bs ≡ content_bytes c ++ rest → onward st c rest ≡ Ok (l, n) → Ahead st bs l n
   by-content header rest a s h = absurd (omega (arith, a))
-  by-content (heads x) rest a s h =
-      let r = on-rest (λ m. record { declarations = []; packages = record { proc = x.proc; name = x.name; declarations = m.declarations } ∷ m.packages }) (scan (after st (found (heads x) rest)) rest) l n h in
+  by-content (package_head x) rest a s h =
+      let r = on-rest (λ m. record { declarations = []; packages = record { proc = x.proc; name = x.name; declarations = m.declarations } ∷ m.packages }) (scan (cursor_after st (found (package_head x) rest)) rest) l n h in
       let m : Rest = r.0 in
-      let f = further (heads x) rest s (record { packages = omega (arith, a.1); dependencies = lim.dependencies; features = lim.features }) m r.1 in
+      let f = further (package_head x) rest s (record { packages = omega (arith, a.1); dependencies = lim.dependencies; features = lim.features }) m r.1 in
       subst (λ z. Ahead st bs z n) r.2 (record {
         tail = f.tail;
-        bytes = s ∙ ap (λ z. content_bytes (heads x) ++ z) f.bytes ∙ sym (package-bytes (content_bytes (heads x)) m.declarations m.packages f.tail);
-        place = omega (arith, f.place, content-length (heads x) rest bs s);
+        bytes = s ∙ ap (λ z. content_bytes (package_head x) ++ z) f.bytes ∙ sym (package-bytes (content_bytes (package_head x)) m.declarations m.packages f.tail);
+        place = omega (arith, f.place, content-length (package_head x) rest bs s);
         may = may-heads st.packages st.dependencies st.keys x.proc x.name m.declarations m.packages a.2 f.may;
       })
   by-content (declaration (dependency x)) rest a s h =
       let c : Content = declaration (dependency x) in
-      let r = on-rest (λ m. record { declarations = dependency x ∷ m.declarations; packages = m.packages }) (scan (after st (found c rest)) rest) l n h in
+      let r = on-rest (λ m. record { declarations = dependency x ∷ m.declarations; packages = m.packages }) (scan (cursor_after st (found c rest)) rest) l n h in
       let m : Rest = r.0 in
       let f = further c rest s (record { packages = lim.packages; dependencies = omega (arith, a.2); features = lim.features }) m r.1 in
       subst (λ z. Ahead st bs z n) r.2 (record {
@@ -67,7 +67,7 @@ module _ (bs : List ℕ) (ih : (cs : List ℕ) → length cs < length bs → Sou
       })
   by-content (declaration (feature x)) rest a s h =
       let c : Content = declaration (feature x) in
-      let r = on-rest (λ m. record { declarations = feature x ∷ m.declarations; packages = m.packages }) (scan (after st (found c rest)) rest) l n h in
+      let r = on-rest (λ m. record { declarations = feature x ∷ m.declarations; packages = m.packages }) (scan (cursor_after st (found c rest)) rest) l n h in
       let m : Rest = r.0 in
       let f = further c rest s (record { packages = lim.packages; dependencies = lim.dependencies; features = omega (arith, a.2, length_push st.keys (key (st.packages - 1) x.name)) }) m r.1 in
       subst (λ z. Ahead st bs z n) r.2 (record {
@@ -97,9 +97,9 @@ sound-below zero bs l = step bs (λ cs k. absurd (omega arith))
 sound-below (suc n) bs l = step bs (λ cs k. sound-below n cs (omega arith))
 
 -- a file that is read says a graph
-from-begin : (file : List ℕ) (l : Rest) (n : ℕ) → Bytes file → length file ≤ max_bytes → (c : Content) (rest : List ℕ) → Allowed begin c → file ≡ content_bytes c ++ rest → onward begin c rest ≡ Ok (l, n) → Says file l.packages × (n ≡ length (encode l.packages))
+from-begin : (file : List ℕ) (l : Rest) (n : ℕ) → Bytes file → length file ≤ max_bytes → (c : Content) (rest : List ℕ) → Allowed first_cursor c → file ≡ content_bytes c ++ rest → onward first_cursor c rest ≡ Ok (l, n) → Says file l.packages × (n ≡ length (encode l.packages))
 from-begin file l n fit size header rest a s h =
-    let f = sound-below (length rest) rest (omega arith) (after begin (found header rest)) l n (bytes-split header_bytes rest (subst Bytes s fit)).1 (omega arith) (record { packages = omega arith; dependencies = omega arith; features = omega arith }) h in
+    let f = sound-below (length rest) rest (omega arith) (cursor_after first_cursor (found header rest)) l n (bytes-split header_bytes rest (subst Bytes s fit)).1 (omega arith) (record { packages = omega arith; dependencies = omega arith; features = omega arith }) h in
     let none : l.declarations ≡ [] = f.may.owned refl in
     let all : file ≡ encode l.packages ++ f.tail = s ∙ ap (λ z. header_bytes ++ z) (f.bytes ∙ ap (λ z. tail_bytes z l.packages f.tail) none) ∙ sym (graph-bytes l.packages f.tail) in (
       record {
@@ -110,18 +110,18 @@ from-begin file l n fit size header rest a s h =
       },
       omega (arith, f.place, ap length all, length-append (encode l.packages) f.tail, content-length header rest file s),
     )
-from-begin file l n fit size (heads x) rest a s h = absurd (omega (arith, a.0))
+from-begin file l n fit size (package_head x) rest a s h = absurd (omega (arith, a.0))
 from-begin file l n fit size (declaration (dependency x)) rest a s h = absurd (omega (arith, a.0))
 from-begin file l n fit size (declaration (feature x)) rest a s h = absurd (omega (arith, a.0))
 from-begin file l n fit size end rest a s h = absurd (omega (arith, a))
 
 pub first-sound : (file : List ℕ) → Bytes file → (g : Graph) (n : ℕ) → first_reading file ≡ Ok (g, n) → Says file g × (n ≡ length (encode g))
-first-sound file fit g n e = go (ltb max_bytes (length file)) refl (scan begin file) refl e
+first-sound file fit g n e = go (ltb max_bytes (length file)) refl (scan first_cursor file) refl e
   where
-    go : (t : Bool) → ltb max_bytes (length file) ≡ t → (r : Reading) → scan begin file ≡ r → cond t (Err Size) (graph_in r) ≡ Ok (g, n) → Says file g × (n ≡ length (encode g))
+    go : (t : Bool) → ltb max_bytes (length file) ≡ t → (r : Reading) → scan first_cursor file ≡ r → cond t (Err Size) (graph_in r) ≡ Ok (g, n) → Says file g × (n ≡ length (encode g))
     go true q r o h = absurd (not-both h)
     go false q (Err x) o h = absurd (not-both h)
     go false q (Ok p) o h =
-        let s = scan-says begin file p fit o in
+        let s = scan-says first_cursor file p fit o in
         subst (λ z. Says file z.0 × (z.1 ≡ length (encode z.0))) (in-ok (p.0.packages, p.1) (g, n) h)
         (from-begin file p.0 p.1 fit (ltb-false max_bytes (length file) q) s.0 s.1 s.2 s.3 s.4)

@@ -12,7 +12,7 @@ use Rattle.records.specs.Graphs.{Dependency, Feature, dependency, feature}
 use Rattle.records.proofs.Codes.{at}
 use Rattle.records.proofs.Numbers.{not-both}
 use Rattle.graph.specs.Limits.{max_features}
-use Rattle.graph.specs.Reading.{Cursor, header, heads, declaration, end, kind_here, as_content, feature_field, content_as, content_of}
+use Rattle.graph.specs.Reading.{Cursor, header, package_head, declaration, end, kind_here, as_content, feature_field, content_as, content_of}
 
 -- only a feature record says a feature, and only where there is room for it
 feature-reads : (st : Cursor) (v : View) (k : Option Kind) (x : Feature) → content_as k st v ≡ Ok (declaration (feature x)) → length st.keys < max_features
@@ -24,7 +24,7 @@ feature-reads st v (Some kind.Header) x e = absurd (go (header_field v) e)
     go (Err f) h = not-both h
 feature-reads st v (Some kind.Package) x e = absurd (go (leb _ _) (package_field v) e)
   where
-    go : (t : Bool) (r : Result (Head × View) RecordFault) → cond t (Err Many) (as_content heads r) ≡ Ok (declaration (feature x)) → ⊥
+    go : (t : Bool) (r : Result (Head × View) RecordFault) → cond t (Err Many) (as_content package_head r) ≡ Ok (declaration (feature x)) → ⊥
     go true r h = not-both h
     go false (Ok p) h = let z : ◌≡◌ {A = ℕ} 0 1 = cc in omega arith
     go false (Err f) h = not-both h

@@ -14,7 +14,7 @@ use Rattle.graph.specs.declared.contents.Content as code
 use Rattle.graph.specs.declared.contents.Content.TheVariants as variant
 use Rattle.graph.specs.declared.contents.ReadRecord as found
 use Rattle.graph.specs.Keys.{Key}
-use Rattle.graph.specs.Reading.{Content, header, heads, declaration, end, Cursor, ReadRecord, Reading, content_of, with_content, with_frame, record_at, is_end, packages_after, dependencies_after, after, carried, on_found, scan}
+use Rattle.graph.specs.Reading.{Content, header, package_head, declaration, end, Cursor, ReadRecord, Reading, content_of, with_content, with_frame, record_at, is_end, packages_after, dependencies_after, cursor_after, with_record, after_record, scan}
 use Rattle.graph.specs.Law.{dependencies_in, dependency_count}
 use Rattle.graph.specs.Gathered.{Gathered, gathered, keys_in, keys_from}
 use Rattle.graph.specs.Views.{content_view, read_record_view, Fits}
@@ -22,15 +22,15 @@ use Rattle.graph.proofs.Founds.{feature-room}
 use Rattle.graph.proofs.Scans.{scan-open, frame-shorter}
 
 -- one record more is gathered from what is left
-pub gathered-more : (st : Cursor) (f : Frame) (c : Content) (r : Reading) → is_end c ≡ false → gathered st (carried st (record { content = c; frame = f }) c r) ≡ gathered (after st (record { content = c; frame = f })) r
+pub gathered-more : (st : Cursor) (f : Frame) (c : Content) (r : Reading) → is_end c ≡ false → gathered st (with_record st (record { content = c; frame = f }) c r) ≡ gathered (cursor_after st (record { content = c; frame = f })) r
 gathered-more st f header (Ok p) n = refl
 gathered-more st f header (Err e) n = refl
-gathered-more st f (heads h) (Ok p) n =
+gathered-more st f (package_head h) (Ok p) n =
     let a : st.packages + length (record { proc = h.proc; name = h.name; declarations = p.0.declarations } ∷ p.0.packages) ≡ (st.packages + 1) + length p.0.packages = omega arith in
     let b : st.dependencies + (0 + (length (dependencies_in p.0.declarations) + dependency_count p.0.packages)) ≡ st.dependencies + (length (dependencies_in p.0.declarations) + dependency_count p.0.packages) = omega arith in
     let q : st.packages ≡ (st.packages + 1) - 1 = omega arith in
     λ i. Ok (record { read = p.1; packages = a i; dependencies = b i; keys = st.keys ++ (keys_in (q i) p.0.declarations ++ keys_from (st.packages + 1) p.0.packages) })
-gathered-more st f (heads h) (Err e) n = refl
+gathered-more st f (package_head h) (Err e) n = refl
 gathered-more st f (declaration (dependency d)) (Ok p) n =
     let b : st.dependencies + (length (d ∷ dependencies_in p.0.declarations) + dependency_count p.0.packages) ≡ (st.dependencies + 1) + (length (dependencies_in p.0.declarations) + dependency_count p.0.packages) = omega arith in
     λ i. Ok (record { read = p.1; packages = st.packages + length p.0.packages; dependencies = b i; keys = st.keys ++ (keys_in (st.packages - 1) p.0.declarations ++ keys_from st.packages p.0.packages) })
@@ -57,32 +57,32 @@ found-parts st bs x e = go (frame_of bs) refl e
     go (Err y) q h = absurd (not-both h)
 
 module _ (file : List ℕ) (st : Cursor) (all : Result Gathered FileFault) (inv : gathered st (scan st (drop st.start file)) ≡ all) where
-  opened : gathered st (on_found st scan (record_at st (drop st.start file))) ≡ all
+  opened : gathered st (after_record st scan (record_at st (drop st.start file))) ≡ all
   opened = ap (gathered st) (sym (scan-open st (drop st.start file))) ∙ inv
 
   -- a fault is the answer
   pub loop-stops : (e : InRecord) → record_at st (drop st.start file) ≡ Err e → Err (Record e) ≡ all
-  loop-stops e h = ap (λ r. gathered st (on_found st scan r)) (sym h) ∙ opened
+  loop-stops e h = ap (λ r. gathered st (after_record st scan r)) (sym h) ∙ opened
 
   -- the record after this one lies in the file
   pub next-within : (x : ReadRecord) → record_at st (drop st.start file) ≡ Ok x → st.start ≤ length file → st.start + (length x.frame.body + 6) ≤ length file
   next-within x h l = omega (arith, (frame-shorter (drop st.start file) x.frame (found-parts st (drop st.start file) x h).0).1, length-drop st.start file)
 
-  pub loop-goes : (x : ReadRecord) → record_at st (drop st.start file) ≡ Ok x → is_end x.content ≡ false → gathered (after st x) (scan (after st x) (drop (after st x).start file)) ≡ all
+  pub loop-goes : (x : ReadRecord) → record_at st (drop st.start file) ≡ Ok x → is_end x.content ≡ false → gathered (cursor_after st x) (scan (cursor_after st x) (drop (cursor_after st x).start file)) ≡ all
   loop-goes x h n =
       let f = (found-parts st (drop st.start file) x h).0 in
-      let rest : x.frame.after ≡ drop (after st x).start file = (frame-shorter (drop st.start file) x.frame f).0 ∙ drop-drop (length x.frame.body + 6) st.start file in
-      ap (λ bs. gathered (after st x) (scan (after st x) bs)) (sym rest)
-      ∙ sym (gathered-more st x.frame x.content (scan (after st x) x.frame.after) n)
-      ∙ ap (λ r. gathered st (on_found st scan r)) (sym h)
+      let rest : x.frame.after ≡ drop (cursor_after st x).start file = (frame-shorter (drop st.start file) x.frame f).0 ∙ drop-drop (length x.frame.body + 6) st.start file in
+      ap (λ bs. gathered (cursor_after st x) (scan (cursor_after st x) bs)) (sym rest)
+      ∙ sym (gathered-more st x.frame x.content (scan (cursor_after st x) x.frame.after) n)
+      ∙ ap (λ r. gathered st (after_record st scan r)) (sym h)
       ∙ opened
 
   pub loop-ends : (x : ReadRecord) → record_at st (drop st.start file) ≡ Ok x → is_end x.content ≡ true → ◌≡◌ {A = Result Gathered FileFault} (Ok (record { read = st.start + (length x.frame.body + 6); packages = st.packages; dependencies = st.dependencies; keys = st.keys })) all
-  loop-ends x h n = ended x.content n ∙ ap (λ r. gathered st (on_found st scan r)) (sym h) ∙ opened
+  loop-ends x h n = ended x.content n ∙ ap (λ r. gathered st (after_record st scan r)) (sym h) ∙ opened
     where
-      ended : (c : Content) → is_end c ≡ true → ◌≡◌ {A = Result Gathered FileFault} (Ok (record { read = st.start + (length x.frame.body + 6); packages = st.packages; dependencies = st.dependencies; keys = st.keys })) (gathered st (carried st x c (scan (after st x) x.frame.after)))
+      ended : (c : Content) → is_end c ≡ true → ◌≡◌ {A = Result Gathered FileFault} (Ok (record { read = st.start + (length x.frame.body + 6); packages = st.packages; dependencies = st.dependencies; keys = st.keys })) (gathered st (with_record st x c (scan (cursor_after st x) x.frame.after)))
       ended header t = absurd (false≢true t)
-      ended (heads y) t = absurd (false≢true t)
+      ended (package_head y) t = absurd (false≢true t)
       ended (declaration y) t = absurd (false≢true t)
       ended end t =
           let a : st.packages ≡ st.packages + 0 = omega arith in
@@ -91,13 +91,13 @@ module _ (file : List ℕ) (st : Cursor) (all : Result Gathered FileFault) (inv 
 
 pub packages-step : (c : Content) (n : ℕ) → packages_after c n ≤ n + 1
 packages-step header n = omega arith
-packages-step (heads h) n = omega arith
+packages-step (package_head h) n = omega arith
 packages-step (declaration p) n = omega arith
 packages-step end n = omega arith
 
 pub dependencies-step : (c : Content) (n : ℕ) → dependencies_after c n ≤ n + 1
 dependencies-step header n = omega arith
-dependencies-step (heads h) n = omega arith
+dependencies-step (package_head h) n = omega arith
 dependencies-step (declaration (dependency d)) n = omega arith
 dependencies-step (declaration (feature f)) n = omega arith
 dependencies-step end n = omega arith

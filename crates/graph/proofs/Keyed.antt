@@ -9,7 +9,7 @@ use Rattle.graph.specs.declared.contents.Counts.{Counts}
 use Rattle.graph.specs.declared.faults.FileFault.{FileFault}
 use Rattle.graph.specs.declared.faults.FileFault.TheVariants.{Size}
 use Rattle.graph.specs.declared.index.Index.{Index}
-use Rattle.graph.specs.Reading.{begin, Reading, scan, graph_in, first_reading}
+use Rattle.graph.specs.Reading.{first_cursor, Reading, scan, graph_in, first_reading}
 use Rattle.graph.specs.Limits.{max_bytes}
 use Rattle.graph.specs.Law.{features_in, dependency_count, feature_count, Says}
 use Rattle.graph.specs.Gathered.{keys_in, keys_from, Gathered, gathered, gathered_in, gathered_by}
@@ -38,21 +38,21 @@ keys-count p (a ∷ g) = omega (arith, length-append (keys_in p a.declarations) 
 abbrev pub all_of : Graph → ℕ → Gathered
 all_of g n = record { read = n; packages = length g; dependencies = dependency_count g; keys = keys_from 0 g }
 
-pub scan-keyed : (file : List ℕ) → Bytes file → (g : Graph) (n : ℕ) → first_reading file ≡ Ok (g, n) → gathered begin (scan begin file) ≡ Ok (all_of g n)
+pub scan-keyed : (file : List ℕ) → Bytes file → (g : Graph) (n : ℕ) → first_reading file ≡ Ok (g, n) → gathered first_cursor (scan first_cursor file) ≡ Ok (all_of g n)
 scan-keyed file fit g n e =
     let s = first-sound file fit g n e in
     let p : 0 + length g ≡ length g = omega arith in
     let d : 0 + (0 + dependency_count g) ≡ dependency_count g = omega arith in
-    ap (gathered begin) (scan-complete file g s.0) ∙ (λ i. Ok (record { read = sym s.1 i; packages = p i; dependencies = d i; keys = keys_from 0 g }))
+    ap (gathered first_cursor) (scan-complete file g s.0) ∙ (λ i. Ok (record { read = sym s.1 i; packages = p i; dependencies = d i; keys = keys_from 0 g }))
 
 pub keyed : (file : List ℕ) → Bytes file → (g : Graph) (n : ℕ) → first_reading file ≡ Ok (g, n) → gathered_in file ≡ Ok (all_of g n)
 keyed file fit g n e = cond-false _ _ _ (le-ltb max_bytes (length file) (first-sound file fit g n e).0.size) ∙ scan-keyed file fit g n e
 
 -- where something is gathered, a graph is read
 pub gathered-read : (file : List ℕ) (x : Gathered) → gathered_in file ≡ Ok x → (g : Graph) × (n : ℕ) × (first_reading file ≡ Ok (g, n))
-gathered-read file x e = go (ltb max_bytes (length file)) refl (scan begin file) refl e
+gathered-read file x e = go (ltb max_bytes (length file)) refl (scan first_cursor file) refl e
   where
-    go : (t : Bool) → ltb max_bytes (length file) ≡ t → (r : Reading) → scan begin file ≡ r → cond t (Err Size) (gathered begin r) ≡ Ok x → (g : Graph) × (n : ℕ) × (first_reading file ≡ Ok (g, n))
+    go : (t : Bool) → ltb max_bytes (length file) ≡ t → (r : Reading) → scan first_cursor file ≡ r → cond t (Err Size) (gathered first_cursor r) ≡ Ok x → (g : Graph) × (n : ℕ) × (first_reading file ≡ Ok (g, n))
     go true q r o h = absurd (not-both h)
     go false q (Err f) o h = absurd (not-both h)
     go false q (Ok p) o h = (p.0.packages, p.1, cond-false _ _ _ q ∙ ap graph_in o)

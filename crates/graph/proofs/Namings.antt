@@ -9,7 +9,7 @@ use Rattle.graph.specs.declared.contents.DeclarationRecord as code_declaration
 use Rattle.graph.specs.declared.contents.DeclarationRecord.TheVariants as kept
 use Rattle.graph.specs.Directory.{no_place}
 use Rattle.graph.specs.Views.{declaration_view}
-use Rattle.graph.specs.Second.{DeclarationPlace, all_known, or_after, check_all}
+use Rattle.graph.specs.Second.{DeclarationPlace, check_each, or_after, check_all}
 use Rattle.text.specs.Forms.{Form, spell}
 use Rattle.records.specs.Bodies.{form_in, dependency_view, feature_view}
 use Rattle.records.specs.declared.bodies.Dependency.{Dependency as DependencyBody}
@@ -18,11 +18,11 @@ use Rattle.records.specs.Graphs.{Dependency, Declaration, dependency, feature}
 use Rattle.records.proofs.Listings.{said-spelled}
 
 -- whether some strings are known, by the strings and by what they say
-pub known-texts : (test : Form (List ℕ) → Bool) (at : ℕ) (ts : List (List ℕ)) → all_known (λ t. test (form_in t)) length at ts ≡ all_known test (λ v. length (spell v)) at (map form_in ts)
+pub known-texts : (test : Form (List ℕ) → Bool) (at : ℕ) (ts : List (List ℕ)) → check_each (λ t. test (form_in t)) length at ts ≡ check_each test (λ v. length (spell v)) at (map form_in ts)
 known-texts test at [] = refl
 known-texts test at (t ∷ ts) =
     let size : length t ≡ length (spell (form_in t)) = sym (ap length (said-spelled t)) in
-    ap (λ r. cond (test (form_in t)) r (Err (Unknown (at + 1)))) (known-texts test ((at + 1) + length t) ts ∙ ap (λ n. all_known test (λ v. length (spell v)) ((at + 1) + n) (map form_in ts)) size)
+    ap (λ r. cond (test (form_in t)) r (Err (Unknown (at + 1)))) (known-texts test ((at + 1) + length t) ts ∙ ap (λ n. check_each test (λ v. length (spell v)) ((at + 1) + n) (map form_in ts)) size)
 
 pub same-part : (p q : Declaration) → ◌≡◌ {A = Option Declaration} (Some p) (Some q) → p ≡ q
 same-part p q e = cc

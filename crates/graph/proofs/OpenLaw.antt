@@ -10,7 +10,7 @@ use Rattle.graph.specs.declared.faults.InRecord.{InRecord}
 use Rattle.graph.specs.declared.faults.FileFault.{FileFault}
 use Rattle.graph.specs.declared.faults.FileFault.TheVariants.{Record, Size, Rows, Memory}
 use Rattle.graph.specs.declared.rows.Opened.{Opened}
-use Rattle.graph.specs.Reading.{begin, Reading, scan, graph_in, first_reading, graph_or, graph_of}
+use Rattle.graph.specs.Reading.{first_cursor, Reading, scan, graph_in, first_reading, graph_or, graph_of}
 use Rattle.graph.specs.Law.{Says}
 use Rattle.graph.specs.Words.{rows, graph_words}
 use Rattle.graph.specs.Second.{second_reading}
@@ -93,15 +93,15 @@ module _ (file words : List ℕ) where
   says-none e size h = (size, λ g s. not-both (sym h ∙ first-complete file g s))
 
   first-lacks : Bytes file → (e : FileFault) → first_reading file ≡ Err e → Lacks file words e
-  first-lacks fit e h = go (ltb max_bytes (length file)) refl (scan begin file) refl h
+  first-lacks fit e h = go (ltb max_bytes (length file)) refl (scan first_cursor file) refl h
     where
-      of_scan : (x : FileFault) → length file ≤ max_bytes → scan begin file ≡ Err x → x ≡ e → Lacks file words e
-      of_scan (Record x) size r q = subst (Lacks file words) q (record-lacks x (first-faults begin file (Record x) r) (says-none (Record x) size (h ∙ ap (λ z. Err z) (sym q)), first-behind file x fit r))
-      of_scan Size size r q = absurd (first-faults begin file Size r)
-      of_scan Rows size r q = absurd (first-faults begin file Rows r)
-      of_scan Memory size r q = absurd (first-faults begin file Memory r)
+      of_scan : (x : FileFault) → length file ≤ max_bytes → scan first_cursor file ≡ Err x → x ≡ e → Lacks file words e
+      of_scan (Record x) size r q = subst (Lacks file words) q (record-lacks x (first-faults first_cursor file (Record x) r) (says-none (Record x) size (h ∙ ap (λ z. Err z) (sym q)), first-behind file x fit r))
+      of_scan Size size r q = absurd (first-faults first_cursor file Size r)
+      of_scan Rows size r q = absurd (first-faults first_cursor file Rows r)
+      of_scan Memory size r q = absurd (first-faults first_cursor file Memory r)
 
-      go : (b : Bool) → ltb max_bytes (length file) ≡ b → (r : Reading) → scan begin file ≡ r → cond b (Err Size) (graph_in r) ≡ Err e → Lacks file words e
+      go : (b : Bool) → ltb max_bytes (length file) ≡ b → (r : Reading) → scan first_cursor file ≡ r → cond b (Err Size) (graph_in r) ≡ Err e → Lacks file words e
       go true q r z k = subst (Lacks file words) (in-err _ _ k) (ltb-true max_bytes (length file) q)
       go false q (Ok p) z k = absurd (not-both (sym k))
       go false q (Err x) z k = of_scan x (ltb-false max_bytes (length file) q) z (in-err _ _ k)

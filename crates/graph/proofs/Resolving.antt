@@ -14,12 +14,13 @@ use Rattle.records.specs.Graphs.{Dependency, Feature, Declaration, dependency, f
 use Rattle.records.specs.Encoding.{declaration_bytes, header_bytes}
 use Rattle.graph.specs.declared.faults.InRecord.{InRecord}
 use Rattle.graph.specs.Law.{dependencies_in, features_in, dependency_count, feature_count}
-use Rattle.graph.specs.Places.{declarations_of, dependencies_of, features_of, no_dependency, no_feature}
-use Rattle.graph.specs.Rules.{later, place_of}
-use Rattle.graph.specs.Second.{DeclarationPlace, places_in_package, places_from, declaration_places, package_record, declarations_length, has_feature, has_dependency, end_has, ends_have, is_known, all_known, names_known, end_known, or_after, check_all, ends, references, then_check, second_reading}
+use Rattle.graph.specs.Places.{package_at, dependencies_of, features_of, no_dependency, no_feature}
+use Rattle.graph.specs.Rules.{place_of}
+use Rattle.graph.specs.Second.{DeclarationPlace, places_in_package, places_from, declaration_places, package_record, declarations_length, has_feature, has_dependency, end_has, ends_have, is_resolved, check_each, check_names, check_end, or_after, check_all, check_ends, check_references, then_check, second_reading}
 use Rattle.graph.specs.Directory.{no_place}
 use Rattle.graph.specs.Limits.{end_place, dependency_name_place, feature_name_place}
-use Rattle.graph.specs.OpeningLaw.{In, DependencyAt, FeatureAt, HasFeature, HasDependency, EndsHave, Resolves, Resolved, Refers}
+use Rattle.graph.proofs.FeaturePlaces.{place-name, name-placed}
+use Rattle.graph.specs.OpeningLaw.{In, DependencyAt, FeatureAt, HasFeature, HasDependency, EndsHave, ResolvedValue, ResolvedGraph, ResolvedDeclaration}
 
 -- how many records there are
 
@@ -119,7 +120,7 @@ module _ (Q : ℕ → Declaration → Type 0) where
   held-parts [] number start owner h = tt
   held-parts (x ∷ ps) number start owner h = (h.0, held-parts ps (number + 1) (start + length (declaration_bytes x)) owner h.1)
 
-  from-held : (g : Graph) (number start owner : ℕ) → AllByRecursion Held (places_from number start owner g) → (p : ℕ) → AllByRecursion (Q (owner + p)) (declarations_of g p)
+  from-held : (g : Graph) (number start owner : ℕ) → AllByRecursion Held (places_from number start owner g) → (p : ℕ) → AllByRecursion (Q (owner + p)) (package_at g p).declarations
   from-held [] number start owner h p = tt
   from-held (a ∷ g) number start owner h zero =
       let at : ℕ = start + length (package_record a) in
@@ -128,9 +129,9 @@ module _ (Q : ℕ → Declaration → Type 0) where
   from-held (a ∷ g) number start owner h (suc p) =
       let at : ℕ = start + length (package_record a) in
       let z : (owner + 1) + p ≡ owner + suc p = omega arith in
-      subst (λ o. AllByRecursion (Q o) (declarations_of g p)) z (from-held g ((number + 1) + length a.declarations) (at + declarations_length a.declarations) (owner + 1) (all_split Held (places_in_package (number + 1) at owner a.declarations) _ h).1 p)
+      subst (λ o. AllByRecursion (Q o) (package_at g p).declarations) z (from-held g ((number + 1) + length a.declarations) (at + declarations_length a.declarations) (owner + 1) (all_split Held (places_in_package (number + 1) at owner a.declarations) _ h).1 p)
 
-  held-from : (g : Graph) (number start owner : ℕ) → ((p : ℕ) → AllByRecursion (Q (owner + p)) (declarations_of g p)) → AllByRecursion Held (places_from number start owner g)
+  held-from : (g : Graph) (number start owner : ℕ) → ((p : ℕ) → AllByRecursion (Q (owner + p)) (package_at g p).declarations) → AllByRecursion Held (places_from number start owner g)
   held-from [] number start owner h = tt
   held-from (a ∷ g) number start owner h =
       let at : ℕ = start + length (package_record a) in
@@ -139,23 +140,23 @@ module _ (Q : ℕ → Declaration → Type 0) where
       (held-parts a.declarations (number + 1) at owner (subst (λ o. AllByRecursion (Q o) a.declarations) z (h 0)))
       (held-from g ((number + 1) + length a.declarations) (at + declarations_length a.declarations) (owner + 1) (λ p.
       let s : owner + suc p ≡ (owner + 1) + p = omega arith in
-      subst (λ o. AllByRecursion (Q o) (declarations_of g p)) s (h (suc p))))
+      subst (λ o. AllByRecursion (Q o) (package_at g p).declarations) s (h (suc p))))
 
   -- of dependencies and of features, by place
   pub held-dependency : (g : Graph) → AllByRecursion Held (declaration_places g) → (p k : ℕ) (d : Dependency) → DependencyAt g p k d → Q p (dependency d)
   held-dependency g h p k d at =
       let z : 0 + p ≡ p = omega arith in
-      subst (λ x. Q p (dependency x)) at.1 (All-get_or (λ x. Q p (dependency x)) (dependencies_of g p) k no_dependency at.0 (dependencies-all (Q p) (declarations_of g p) (subst (λ o. AllByRecursion (Q o) (declarations_of g p)) z (from-held g 1 (length header_bytes) 0 h p))))
+      subst (λ x. Q p (dependency x)) at.1 (All-get_or (λ x. Q p (dependency x)) (dependencies_of g p) k no_dependency at.0 (dependencies-all (Q p) (package_at g p).declarations (subst (λ o. AllByRecursion (Q o) (package_at g p).declarations) z (from-held g 1 (length header_bytes) 0 h p))))
 
   pub held-feature : (g : Graph) → AllByRecursion Held (declaration_places g) → (p k : ℕ) (f : Feature) → FeatureAt g p k f → Q p (feature f)
   held-feature g h p k f at =
       let z : 0 + p ≡ p = omega arith in
-      subst (λ x. Q p (feature x)) at.1 (All-get_or (λ x. Q p (feature x)) (features_of g p) k no_feature at.0 (features-all (Q p) (declarations_of g p) (subst (λ o. AllByRecursion (Q o) (declarations_of g p)) z (from-held g 1 (length header_bytes) 0 h p))))
+      subst (λ x. Q p (feature x)) at.1 (All-get_or (λ x. Q p (feature x)) (features_of g p) k no_feature at.0 (features-all (Q p) (package_at g p).declarations (subst (λ o. AllByRecursion (Q o) (package_at g p).declarations) z (from-held g 1 (length header_bytes) 0 h p))))
 
   pub all_held : (g : Graph) → ((p k : ℕ) (d : Dependency) → DependencyAt g p k d → Q p (dependency d)) → ((p k : ℕ) (f : Feature) → FeatureAt g p k f → Q p (feature f)) → AllByRecursion Held (declaration_places g)
   all_held g ds fs = held-from g 1 (length header_bytes) 0 (λ p.
       let z : p ≡ 0 + p = omega arith in
-      subst (λ o. AllByRecursion (Q o) (declarations_of g p)) z (parts_all (Q p) (declarations_of g p)
+      subst (λ o. AllByRecursion (Q o) (package_at g p).declarations) z (parts_all (Q p) (package_at g p).declarations
       (All-from_get_or (λ x. Q p (dependency x)) (dependencies_of g p) no_dependency (λ k l. ds p k (get_or (dependencies_of g p) k no_dependency) (l, refl)))
       (All-from_get_or (λ x. Q p (feature x)) (features_of g p) no_feature (λ k l. fs p k (get_or (features_of g p) k no_feature) (l, refl)))))
 
@@ -182,61 +183,32 @@ module _ (test : DeclarationPlace → Result (Unit {0}) RecordFault) where
       go (Err f) q h more = (x, inl refl, f, q, sym (in-err _ _ h))
 
 -- the end of a dependency
-end-there : (g : Graph) (d : Dependency) → end_known g (dependency d) ≡ Ok tt → d.end < length g
+end-there : (g : Graph) (d : Dependency) → check_end g (dependency d) ≡ Ok tt → d.end < length g
 end-there g d e = go (ltb d.end (length g)) refl e
   where
     go : (b : Bool) → ltb d.end (length g) ≡ b → cond {A = Result (Unit {0}) RecordFault} b (Ok tt) (Err (Unknown end_place)) ≡ Ok tt → d.end < length g
     go true q h = ltb-true d.end (length g) q
     go false q h = absurd (not-both h)
 
-pub ends-resolved : (g : Graph) → ends g (declaration_places g) ≡ Ok tt → (p k : ℕ) (d : Dependency) → DependencyAt g p k d → d.end < length g
-ends-resolved g e p k d at = end-there g d (held-dependency (λ o x. end_known g x ≡ Ok tt) g (checked-all (λ x. end_known g x.declaration) (declaration_places g) e) p k d at)
+pub ends-resolved : (g : Graph) → check_ends g (declaration_places g) ≡ Ok tt → (p k : ℕ) (d : Dependency) → DependencyAt g p k d → d.end < length g
+ends-resolved g e p k d at = end-there g d (held-dependency (λ o x. check_end g x ≡ Ok tt) g (checked-all (λ x. check_end g x.declaration) (declaration_places g) e) p k d at)
 
-there-end : (g : Graph) (d : Dependency) → d.end < length g → end_known g (dependency d) ≡ Ok tt
+there-end : (g : Graph) (d : Dependency) → d.end < length g → check_end g (dependency d) ≡ Ok tt
 there-end g d l = cond-true _ _ _ (lt-ltb d.end (length g) l)
 
 -- all strings are known exactly if each is
 module _ {A : Type 0} (test : A → Bool) (size : A → ℕ) where
-  known-each : (at : ℕ) (xs : List A) → all_known test size at xs ≡ Ok tt → AllByRecursion (λ x. test x ≡ true) xs
+  known-each : (at : ℕ) (xs : List A) → check_each test size at xs ≡ Ok tt → AllByRecursion (λ x. test x ≡ true) xs
   known-each at [] e = tt
   known-each at (x ∷ xs) e = go (test x) refl e (known-each ((at + 1) + size x) xs)
     where
-      go : (b : Bool) → test x ≡ b → cond b (all_known test size ((at + 1) + size x) xs) (Err (Unknown (at + 1))) ≡ Ok tt → (all_known test size ((at + 1) + size x) xs ≡ Ok tt → AllByRecursion (λ y. test y ≡ true) xs) → AllByRecursion (λ y. test y ≡ true) (x ∷ xs)
+      go : (b : Bool) → test x ≡ b → cond b (check_each test size ((at + 1) + size x) xs) (Err (Unknown (at + 1))) ≡ Ok tt → (check_each test size ((at + 1) + size x) xs ≡ Ok tt → AllByRecursion (λ y. test y ≡ true) xs) → AllByRecursion (λ y. test y ≡ true) (x ∷ xs)
       go true q h more = (q, more h)
       go false q h more = absurd (not-both h)
 
-  each-known : (at : ℕ) (xs : List A) → AllByRecursion (λ x. test x ≡ true) xs → all_known test size at xs ≡ Ok tt
+  each-known : (at : ℕ) (xs : List A) → AllByRecursion (λ x. test x ≡ true) xs → check_each test size at xs ≡ Ok tt
   each-known at [] h = refl
   each-known at (x ∷ xs) h = cond-true _ _ _ h.0 ∙ each-known ((at + 1) + size x) xs h.1
-
--- a place that a name has among features is that of a feature of this name
-pub place-name : (fs : List Feature) (n : List ℕ) (j : ℕ) → place_of fs n ≡ Some j → (j < length fs) × ((get_or fs j no_feature).name ≡ n)
-place-name [] n j e = absurd (let z : ◌≡◌ {A = ℕ} 0 1 = cc in omega arith)
-place-name (f ∷ fs) n j e = go (bytes_eq f.name n) refl (place_of fs n) refl j e (place-name fs n)
-  where
-    go : (b : Bool) → bytes_eq f.name n ≡ b → (o : Option ℕ) → place_of fs n ≡ o → (i : ℕ) → cond b (Some 0) (later o) ≡ Some i → ((k : ℕ) → place_of fs n ≡ Some k → (k < length fs) × ((get_or fs k no_feature).name ≡ n)) → (i < length (f ∷ fs)) × ((get_or (f ∷ fs) i no_feature).name ≡ n)
-    go true q o r i h more =
-        let z : 0 ≡ i = cc in
-        subst (λ k. (k < length (f ∷ fs)) × ((get_or (f ∷ fs) k no_feature).name ≡ n)) z (omega arith, (bytes_eq-Decides f.name n).0 q)
-    go false q None r i h more = absurd (let z : ◌≡◌ {A = ℕ} 0 1 = cc in omega arith)
-    go false q (Some k) r i h more =
-        let z : suc k ≡ i = cc in
-        let m = more k r in
-        subst (λ k. (k < length (f ∷ fs)) × ((get_or (f ∷ fs) k no_feature).name ≡ n)) z (omega (arith, m.0), m.1)
-
--- a name that a feature has, has a place
-later-some : (o : Option ℕ) → is_some o ≡ true → is_some (later o) ≡ true
-later-some None h = h
-later-some (Some k) h = refl
-
-name-placed : (fs : List Feature) (n : List ℕ) (j : ℕ) → j < length fs → (get_or fs j no_feature).name ≡ n → is_some (place_of fs n) ≡ true
-name-placed [] n j l e = absurd (omega arith)
-name-placed (f ∷ fs) n zero l e = ap is_some (cond-true _ _ _ ((bytes_eq-Decides f.name n).1 e))
-name-placed (f ∷ fs) n (suc j) l e = go (bytes_eq f.name n) (name-placed fs n j (omega arith) e)
-  where
-    go : (b : Bool) → is_some (place_of fs n) ≡ true → is_some (cond b (Some 0) (later (place_of fs n))) ≡ true
-    go true h = refl
-    go false h = later-some (place_of fs n) h
 
 some_is : (o : Option ℕ) → is_some o ≡ true → (j : ℕ) × (o ≡ Some j)
 some_is None e = absurd (let z : ◌≡◌ {A = ℕ} 0 1 = cc in omega arith)
@@ -303,7 +275,7 @@ module _ (g : Graph) (n x : List ℕ) where
       has_end (get_or (dependencies_of g p) k no_dependency) (h k (get_or (dependencies_of g p) k no_dependency) (l, refl))))
 
 -- a value is known exactly if it resolves
-known-resolves : (g : Graph) (p : ℕ) (v : Form (List ℕ)) → is_known g p v ≡ true → Resolves g p v
+known-resolves : (g : Graph) (p : ℕ) (v : Form (List ℕ)) → is_resolved g p v ≡ true → ResolvedValue g p v
 known-resolves g p (plain x) e = has-feature g p x e
 known-resolves g p (switch n) e = has-dependency g p n e
 known-resolves g p (strong n x) e =
@@ -313,7 +285,7 @@ known-resolves g p (weak n x) e =
     let b = and_parts (has_dependency (dependencies_of g p) n) (ends_have g (dependencies_of g p) n x) e in
     (has-dependency g p n b.0, ends-have g n x p b.1)
 
-resolves_known : (g : Graph) (p : ℕ) (v : Form (List ℕ)) → Resolves g p v → is_known g p v ≡ true
+resolves_known : (g : Graph) (p : ℕ) (v : Form (List ℕ)) → ResolvedValue g p v → is_resolved g p v ≡ true
 resolves_known g p (plain x) h = feature-has g p x h
 resolves_known g p (switch n) h = dependency-has g p n h
 resolves_known g p (strong n x) h = and_from _ _ (dependency-has g p n h.0) (have-ends g n x p h.1)
@@ -324,37 +296,37 @@ both-checked : (a b : Result (Unit {0}) InRecord) → then_check a b ≡ Ok tt �
 both-checked (Ok u) b e = (refl, e)
 both-checked (Err x) b e = absurd (not-both e)
 
-pub second-resolved : (g : Graph) → second_reading g ≡ Ok tt → Resolved g
+pub second-resolved : (g : Graph) → second_reading g ≡ Ok tt → ResolvedGraph g
 second-resolved g e =
-    let b = both-checked (ends g (declaration_places g)) (references g (declaration_places g)) e in
-    let r = checked-all (λ x. names_known g x.owner x.declaration) (declaration_places g) b.1 in
+    let b = both-checked (check_ends g (declaration_places g)) (check_references g (declaration_places g)) e in
+    let r = checked-all (λ x. check_names g x.owner x.declaration) (declaration_places g) b.1 in
     record {
       ends = ends-resolved g b.0;
       asks = λ p k d at. All-weaker (λ n. has_feature (features_of g d.end) n ≡ true) (HasFeature g d.end) (has-feature g d.end) d.asks
-          (known-each (has_feature (features_of g d.end)) length ((dependency_name_place + length d.name) + 1) d.asks (held-dependency (λ o x. names_known g o x ≡ Ok tt) g r p k d at));
-      values = λ p k f at. All-weaker (λ v. is_known g p v ≡ true) (Resolves g p) (known-resolves g p) f.values
-          (known-each (is_known g p) (λ v. length (spell v)) ((feature_name_place + length f.name) + 1) f.values (held-feature (λ o x. names_known g o x ≡ Ok tt) g r p k f at));
+          (known-each (has_feature (features_of g d.end)) length ((dependency_name_place + length d.name) + 1) d.asks (held-dependency (λ o x. check_names g o x ≡ Ok tt) g r p k d at));
+      values = λ p k f at. All-weaker (λ v. is_resolved g p v ≡ true) (ResolvedValue g p) (known-resolves g p) f.values
+          (known-each (is_resolved g p) (λ v. length (spell v)) ((feature_name_place + length f.name) + 1) f.values (held-feature (λ o x. check_names g o x ≡ Ok tt) g r p k f at));
     }
 
 -- what a part refers to is there only if both checks of its record find no fault
-refers-known : (g : Graph) (p : ℕ) (x : Declaration) → Refers g p x → (end_known g x ≡ Ok tt) × (names_known g p x ≡ Ok tt)
+refers-known : (g : Graph) (p : ℕ) (x : Declaration) → ResolvedDeclaration g p x → (check_end g x ≡ Ok tt) × (check_names g p x ≡ Ok tt)
 refers-known g p (dependency d) h = (there-end g d h.0, each-known _ length ((dependency_name_place + length d.name) + 1) d.asks (All-weaker (HasFeature g d.end) (λ n. has_feature (features_of g d.end) n ≡ true) (feature-has g d.end) d.asks h.1))
-refers-known g p (feature f) h = (refl, each-known (is_known g p) (λ v. length (spell v)) ((feature_name_place + length f.name) + 1) f.values (All-weaker (Resolves g p) (λ v. is_known g p v ≡ true) (resolves_known g p) f.values h))
+refers-known g p (feature f) h = (refl, each-known (is_resolved g p) (λ v. length (spell v)) ((feature_name_place + length f.name) + 1) f.values (All-weaker (ResolvedValue g p) (λ v. is_resolved g p v ≡ true) (resolves_known g p) f.values h))
 
 -- both checks find only that something is unknown
-names-unknown : {A : Type 0} (test : A → Bool) (size : A → ℕ) (at : ℕ) (xs : List A) (e : RecordFault) → all_known test size at xs ≡ Err e → (field : ℕ) × (e ≡ Unknown field)
+names-unknown : {A : Type 0} (test : A → Bool) (size : A → ℕ) (at : ℕ) (xs : List A) (e : RecordFault) → check_each test size at xs ≡ Err e → (field : ℕ) × (e ≡ Unknown field)
 names-unknown test size at [] e h = absurd (not-both (sym h))
 names-unknown test size at (x ∷ xs) e h = go (test x) h (names-unknown test size ((at + 1) + size x) xs e)
   where
-    go : (b : Bool) → cond b (all_known test size ((at + 1) + size x) xs) (Err (Unknown (at + 1))) ≡ Err e → (all_known test size ((at + 1) + size x) xs ≡ Err e → (field : ℕ) × (e ≡ Unknown field)) → (field : ℕ) × (e ≡ Unknown field)
+    go : (b : Bool) → cond b (check_each test size ((at + 1) + size x) xs) (Err (Unknown (at + 1))) ≡ Err e → (check_each test size ((at + 1) + size x) xs ≡ Err e → (field : ℕ) × (e ≡ Unknown field)) → (field : ℕ) × (e ≡ Unknown field)
     go true q more = more q
     go false q more = (at + 1, sym (in-err _ _ q))
 
-part-unknown : (g : Graph) (p : ℕ) (x : Declaration) (e : RecordFault) → names_known g p x ≡ Err e → (field : ℕ) × (e ≡ Unknown field)
+part-unknown : (g : Graph) (p : ℕ) (x : Declaration) (e : RecordFault) → check_names g p x ≡ Err e → (field : ℕ) × (e ≡ Unknown field)
 part-unknown g p (dependency d) e h = names-unknown _ _ _ d.asks e h
 part-unknown g p (feature f) e h = names-unknown _ _ _ f.values e h
 
-end-unknown : (g : Graph) (x : Declaration) (e : RecordFault) → end_known g x ≡ Err e → (field : ℕ) × (e ≡ Unknown field)
+end-unknown : (g : Graph) (x : Declaration) (e : RecordFault) → check_end g x ≡ Err e → (field : ℕ) × (e ≡ Unknown field)
 end-unknown g (dependency d) e h = go (ltb d.end (length g)) h
   where
     go : (b : Bool) → cond {A = Result (Unit {0}) RecordFault} b (Ok tt) (Err (Unknown end_place)) ≡ Err e → (field : ℕ) × (e ≡ Unknown field)
@@ -364,35 +336,35 @@ end-unknown g (feature f) e h = absurd (not-both (sym h))
 
 -- the record at fault, and that something it refers to is not there
 abbrev Amiss : Graph → InRecord → Type 0
-Amiss g y = (x : DeclarationPlace) × In x (declaration_places g) × (y.number ≡ x.number) × (y.start ≡ x.start) × (Refers g x.owner x.declaration → ⊥) × ((field : ℕ) × (y.fault ≡ Unknown field))
+Amiss g y = (x : DeclarationPlace) × In x (declaration_places g) × (y.number ≡ x.number) × (y.start ≡ x.start) × (ResolvedDeclaration g x.owner x.declaration → ⊥) × ((field : ℕ) × (y.fault ≡ Unknown field))
 
 pub second-amiss : (g : Graph) (y : InRecord) → second_reading g ≡ Err y → Amiss g y
-second-amiss g y e = go (ends g (declaration_places g)) refl e
+second-amiss g y e = go (check_ends g (declaration_places g)) refl e
   where
-    of_ends : ends g (declaration_places g) ≡ Err y → Amiss g y
+    of_ends : check_ends g (declaration_places g) ≡ Err y → Amiss g y
     of_ends h =
-        let w = fault-of (λ x. end_known g x.declaration) (declaration_places g) y h in
+        let w = fault-of (λ x. check_end g x.declaration) (declaration_places g) y h in
         let u = end-unknown g w.0.declaration w.2 w.3 in
         (w.0, w.1, ap (λ z. z.number) w.4, ap (λ z. z.start) w.4, (λ r. not-both (sym w.3 ∙ (refers-known g w.0.owner w.0.declaration r).0)), (u.0, ap (λ z. z.fault) w.4 ∙ u.1))
 
-    of_names : references g (declaration_places g) ≡ Err y → Amiss g y
+    of_names : check_references g (declaration_places g) ≡ Err y → Amiss g y
     of_names h =
-        let w = fault-of (λ x. names_known g x.owner x.declaration) (declaration_places g) y h in
+        let w = fault-of (λ x. check_names g x.owner x.declaration) (declaration_places g) y h in
         let u = part-unknown g w.0.owner w.0.declaration w.2 w.3 in
         (w.0, w.1, ap (λ z. z.number) w.4, ap (λ z. z.start) w.4, (λ r. not-both (sym w.3 ∙ (refers-known g w.0.owner w.0.declaration r).1)), (u.0, ap (λ z. z.fault) w.4 ∙ u.1))
 
-    go : (r : Result (Unit {0}) InRecord) → ends g (declaration_places g) ≡ r → then_check r (references g (declaration_places g)) ≡ Err y → Amiss g y
+    go : (r : Result (Unit {0}) InRecord) → check_ends g (declaration_places g) ≡ r → then_check r (check_references g (declaration_places g)) ≡ Err y → Amiss g y
     go (Ok u) q h = of_names h
     go (Err z) q h = of_ends (q ∙ h)
 
-pub resolved-second : (g : Graph) → Resolved g → second_reading g ≡ Ok tt
+pub resolved-second : (g : Graph) → ResolvedGraph g → second_reading g ≡ Ok tt
 resolved-second g h =
-    let a : ends g (declaration_places g) ≡ Ok tt = all-checked (λ x. end_known g x.declaration) (declaration_places g) (all_held (λ o x. end_known g x ≡ Ok tt) g
+    let a : check_ends g (declaration_places g) ≡ Ok tt = all-checked (λ x. check_end g x.declaration) (declaration_places g) (all_held (λ o x. check_end g x ≡ Ok tt) g
     (λ p k d at. there-end g d (h.ends p k d at))
     (λ p k f at. refl)) in
-    let b : references g (declaration_places g) ≡ Ok tt = all-checked (λ x. names_known g x.owner x.declaration) (declaration_places g) (all_held (λ o x. names_known g o x ≡ Ok tt) g
+    let b : check_references g (declaration_places g) ≡ Ok tt = all-checked (λ x. check_names g x.owner x.declaration) (declaration_places g) (all_held (λ o x. check_names g o x ≡ Ok tt) g
     (λ p k d at. each-known (has_feature (features_of g d.end)) length ((dependency_name_place + length d.name) + 1) d.asks
     (All-weaker (HasFeature g d.end) (λ n. has_feature (features_of g d.end) n ≡ true) (feature-has g d.end) d.asks (h.asks p k d at)))
-    (λ p k f at. each-known (is_known g p) (λ v. length (spell v)) ((feature_name_place + length f.name) + 1) f.values
-    (All-weaker (Resolves g p) (λ v. is_known g p v ≡ true) (resolves_known g p) f.values (h.values p k f at)))) in
-    ap (λ r. then_check r (references g (declaration_places g))) a ∙ b
+    (λ p k f at. each-known (is_resolved g p) (λ v. length (spell v)) ((feature_name_place + length f.name) + 1) f.values
+    (All-weaker (ResolvedValue g p) (λ v. is_resolved g p v ≡ true) (resolves_known g p) f.values (h.values p k f at)))) in
+    ap (λ r. then_check r (check_references g (declaration_places g))) a ∙ b

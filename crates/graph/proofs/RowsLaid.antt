@@ -7,7 +7,7 @@ use Rattle.text.specs.Forms.{Form, plain, switch, strong, weak}
 use Rattle.records.specs.Graphs.{Dependency, Declaration, Package, Graph}
 use Rattle.graph.specs.declared.rows.Row.{Row}
 use Rattle.graph.specs.Law.{dependencies_in, features_in}
-use Rattle.graph.specs.Places.{dep, feat, declarations_of, dependencies_of, features_of, number}
+use Rattle.graph.specs.Places.{dep, feat, package_at, dependencies_of, features_of, number}
 use Rattle.graph.specs.Rules.{lane_of, place_of, when_some, when, each, unless, ask_rule, dependency_rules, value_rules, feature_rules, package_rules}
 use Rattle.graph.specs.Words.{row_of, rows}
 use Rattle.graph.specs.RowLists.{ask_rows, dependency_rows, value_rows, package_rows, rows_below}
@@ -73,7 +73,7 @@ value-laid g p j (strong n x) = map_each (row_of g) _ _ (λ k d. map-strong (row
 value-laid g p j (weak n x) = map_each (row_of g) _ _ (λ k d. map-weak (row_of g) (bytes_eq d.name n) (place_of (features_of g d.end) x) _) 0 (dependencies_of g p)
 
 -- the rows of package p, whose parts are those of a
-pub package-laid : (g : Graph) (p : ℕ) (a : Package) → declarations_of g p ≡ a.declarations → map (row_of g) (package_rules g p a) ≡ package_rows g p
+pub package-laid : (g : Graph) (p : ℕ) (a : Package) → (package_at g p).declarations ≡ a.declarations → map (row_of g) (package_rules g p a) ≡ package_rows g p
 package-laid g p a e =
     map-append (row_of g) (each (dependency_rules g p) 0 (dependencies_in a.declarations)) (each (feature_rules g p) 0 (features_in a.declarations))
     ∙ (λ i.
@@ -82,7 +82,7 @@ package-laid g p a e =
     ∙ ap (λ (ps : List Declaration). each (λ k. dependency_rows g p (number g (dep p k))) 0 (dependencies_in ps) ++ each (λ k f. flat_map (value_rows g p (number g (feat p k))) f.values) 0 (features_in ps)) (sym e)
 
 -- the rows below package k, then those of the packages h that follow
-packages-laid : (g : Graph) (k : ℕ) (h : Graph) → ((j : ℕ) → declarations_of g (k + j) ≡ declarations_of h j) → rows_below g k ++ map (row_of g) (each (package_rules g) k h) ≡ rows_below g (k + length h)
+packages-laid : (g : Graph) (k : ℕ) (h : Graph) → ((j : ℕ) → (package_at g (k + j)).declarations ≡ (package_at h j).declarations) → rows_below g k ++ map (row_of g) (each (package_rules g) k h) ≡ rows_below g (k + length h)
 packages-laid g k [] same =
     let z : k ≡ k + 0 = omega arith in
     append-nil (rows_below g k) ∙ ap (rows_below g) z
@@ -90,15 +90,15 @@ packages-laid g k (a ∷ h) same =
     let z : k ≡ k + 0 = omega arith in
     let o : suc k ≡ k + 1 = omega arith in
     let s : (k + 1) + length h ≡ k + suc (length h) = omega arith in
-    let e : declarations_of g k ≡ a.declarations = ap (declarations_of g) z ∙ same 0 in
+    let e : (package_at g k).declarations ≡ a.declarations = ap (λ q. (package_at g q).declarations) z ∙ same 0 in
     ap (λ rs. rows_below g k ++ rs) (map-append (row_of g) (package_rules g k a) (each (package_rules g) (k + 1) h) ∙ ap (λ rs. rs ++ map (row_of g) (each (package_rules g) (k + 1) h)) (package-laid g k a e))
     ∙ sym (append_assoc (rows_below g k) (package_rows g k) (map (row_of g) (each (package_rules g) (k + 1) h)))
     ∙ ap (λ n. rows_below g n ++ map (row_of g) (each (package_rules g) (k + 1) h)) o
-    ∙ packages-laid g (k + 1) h (λ j. (let m : (k + 1) + j ≡ k + suc j = omega arith in ap (declarations_of g) m) ∙ same (suc j))
+    ∙ packages-laid g (k + 1) h (λ j. (let m : (k + 1) + j ≡ k + suc j = omega arith in ap (λ q. (package_at g q).declarations) m) ∙ same (suc j))
     ∙ ap (rows_below g) s
 
 -- the rows of all packages are the rows of the graph
 pub rows-laid : (g : Graph) → rows_below g (length g) ≡ rows g
 rows-laid g =
     let z : 0 + length g ≡ length g = omega arith in
-    sym (packages-laid g 0 g (λ j. let m : 0 + j ≡ j = omega arith in ap (declarations_of g) m) ∙ ap (rows_below g) z)
+    sym (packages-laid g 0 g (λ j. let m : 0 + j ≡ j = omega arith in ap (λ q. (package_at g q).declarations) m) ∙ ap (rows_below g) z)

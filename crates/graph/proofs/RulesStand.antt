@@ -5,12 +5,11 @@ use Rattle.std.specs.List.{flat_map}
 use Rattle.std.specs.Str.{bytes_eq}
 use Rattle.text.specs.Forms.{Form, plain, switch, strong, weak}
 use Rattle.records.specs.Graphs.{Dependency, Feature, Declaration, Graph}
-use Rattle.graph.specs.Law.{dependencies_in, features_in, Lawful}
-use Rattle.graph.specs.Places.{unit, dep, feat, declarations_of, dependencies_of, features_of, no_dependency, no_feature}
+use Rattle.graph.specs.Law.{dependencies_in, features_in, LawfulGraph}
+use Rattle.graph.specs.Places.{unit, dep, feat, package_at, dependencies_of, features_of, no_dependency, no_feature}
 use Rattle.graph.specs.Rules.{Rule, lane_of, place_of, when_some, when, each, unless, ask_rule, dependency_rules, switch_rule, weak_rule, if_named, value_rules, feature_rules, package_rules, rules}
 use Rattle.graph.specs.OpeningLaw.{In, DependencyAt, FeatureAt, NamedAt, IsRuleOf, needs, builds, defaults, asks, plainly, switches, joins, RulesLaw}
-use Rattle.graph.proofs.FeaturePlaces.{place-some, features-differ}
-use Rattle.graph.proofs.Resolving.{place-name}
+use Rattle.graph.proofs.FeaturePlaces.{place-some, place-name, features-differ}
 
 -- what is in two lists put together, in what a list gives, and in a list of at most one
 
@@ -116,7 +115,7 @@ place-named g p n j e =
     let h = place-name (features_of g p) n j e in
     (get_or (features_of g p) j no_feature, (h.0, refl), h.1)
 
-named-place : (g : Graph) → Lawful g → (p : ℕ) (n : List ℕ) (j : ℕ) → NamedAt g p j n → place_of (features_of g p) n ≡ Some j
+named-place : (g : Graph) → LawfulGraph g → (p : ℕ) (n : List ℕ) (j : ℕ) → NamedAt g p j n → place_of (features_of g p) n ≡ Some j
 named-place g law p n j h =
     place-some (features_of g p) n j h.1.0 ((bytes_eq-Decides (get_or (features_of g p) j no_feature).name n).1 (ap (λ f. f.name) h.1.1 ∙ h.2)) (features-differ g p law.packages)
 
@@ -124,7 +123,7 @@ named-place g law p n j h =
 abbrev of_parts : Graph → ℕ → List Declaration → List Rule
 of_parts g p ps = each (dependency_rules g p) 0 (dependencies_in ps) ++ each (feature_rules g p) 0 (features_in ps)
 
-packages-from : (g : Graph) (ρ : Rule) (k : ℕ) (h : Graph) → In ρ (each (package_rules g) k h) → (p : ℕ) × In ρ (of_parts g (k + p) (declarations_of h p))
+packages-from : (g : Graph) (ρ : Rule) (k : ℕ) (h : Graph) → In ρ (each (package_rules g) k h) → (p : ℕ) × In ρ (of_parts g (k + p) (package_at h p).declarations)
 packages-from g ρ k [] m = absurd m
 packages-from g ρ k (a ∷ h) m =
     ⊎_elim
@@ -132,27 +131,27 @@ packages-from g ρ k (a ∷ h) m =
     (λ (l : In ρ (each (package_rules g) (k + 1) h)).
     let r = packages-from g ρ (k + 1) h l in
     let z : (k + 1) + r.0 ≡ k + suc r.0 = omega arith in
-    (suc r.0, subst (λ i. In ρ (of_parts g i (declarations_of h r.0))) z r.1))
+    (suc r.0, subst (λ i. In ρ (of_parts g i (package_at h r.0).declarations)) z r.1))
     (in_either ρ (package_rules g k a) (each (package_rules g) (k + 1) h) m)
 
-in-packages : (g : Graph) (ρ : Rule) (k : ℕ) (h : Graph) (p : ℕ) → In ρ (of_parts g (k + p) (declarations_of h p)) → In ρ (each (package_rules g) k h)
+in-packages : (g : Graph) (ρ : Rule) (k : ℕ) (h : Graph) (p : ℕ) → In ρ (of_parts g (k + p) (package_at h p).declarations) → In ρ (each (package_rules g) k h)
 in-packages g ρ k [] p m = absurd m
 in-packages g ρ k (a ∷ h) zero m = let z : k + 0 ≡ k = omega arith in in_left ρ (package_rules g k a) (each (package_rules g) (k + 1) h) (subst (λ i. In ρ (of_parts g i a.declarations)) z m)
 in-packages g ρ k (a ∷ h) (suc p) m =
     let z : k + suc p ≡ (k + 1) + p = omega arith in
-    in_right ρ (package_rules g k a) (each (package_rules g) (k + 1) h) (in-packages g ρ (k + 1) h p (subst (λ i. In ρ (of_parts g i (declarations_of h p))) z m))
+    in_right ρ (package_rules g k a) (each (package_rules g) (k + 1) h) (in-packages g ρ (k + 1) h p (subst (λ i. In ρ (of_parts g i (package_at h p).declarations)) z m))
 
 -- the rules of a dependency, and of a feature, of package p are rules
 in-dependency : (g : Graph) (ρ : Rule) (p k : ℕ) (d : Dependency) → DependencyAt g p k d → In ρ (dependency_rules g p k d) → In ρ (rules g)
 in-dependency g ρ p k d at m =
     let z : p ≡ 0 + p = omega arith in
-    in-packages g ρ 0 g p (subst (λ i. In ρ (of_parts g i (declarations_of g p))) z
+    in-packages g ρ 0 g p (subst (λ i. In ρ (of_parts g i (package_at g p).declarations)) z
     (in_left ρ (each (dependency_rules g p) 0 (dependencies_of g p)) (each (feature_rules g p) 0 (features_of g p)) (in-first (dependency_rules g p) ρ no_dependency (dependencies_of g p) k d at m)))
 
 in-value : (g : Graph) (ρ : Rule) (p j : ℕ) (f : Feature) (v : Form (List ℕ)) → FeatureAt g p j f → In v f.values → In ρ (value_rules g p j v) → In ρ (rules g)
 in-value g ρ p j f v at is m =
     let z : p ≡ 0 + p = omega arith in
-    in-packages g ρ 0 g p (subst (λ i. In ρ (of_parts g i (declarations_of g p))) z
+    in-packages g ρ 0 g p (subst (λ i. In ρ (of_parts g i (package_at g p).declarations)) z
     (in_right ρ (each (dependency_rules g p) 0 (dependencies_of g p)) (each (feature_rules g p) 0 (features_of g p))
     (in-first (feature_rules g p) ρ no_feature (features_of g p) j f at (in-joined (value_rules g p j) ρ f.values v is m))))
 
@@ -244,7 +243,7 @@ rule-stands g ρ m =
     let r = packages-from g ρ 0 g m in
     let p : ℕ = r.0 in
     let z : 0 + p ≡ p = omega arith in
-    let l : In ρ (of_parts g p (declarations_of g p)) = subst (λ i. In ρ (of_parts g i (declarations_of g p))) z r.1 in
+    let l : In ρ (of_parts g p (package_at g p).declarations) = subst (λ i. In ρ (of_parts g i (package_at g p).declarations)) z r.1 in
     ⊎_elim
     (λ (h : In ρ (each (dependency_rules g p) 0 (dependencies_of g p))).
     let c = first-from (dependency_rules g p) ρ no_dependency (dependencies_of g p) h in
@@ -257,7 +256,7 @@ rule-stands g ρ m =
     (in_either ρ (each (dependency_rules g p) 0 (dependencies_of g p)) (each (feature_rules g p) 0 (features_of g p)) l)
 
 -- what a dependency asks of its end, by default or by name, is among its rules
-module _ (g : Graph) (law : Lawful g) (p k : ℕ) (d : Dependency) where
+module _ (g : Graph) (law : LawfulGraph g) (p k : ℕ) (d : Dependency) where
   in-ask : (n : List ℕ) (j : ℕ) → NamedAt g d.end j n → In (record { from = dep p k; with = None; to = feat d.end j; lane = Some (lane_of g d); cross = true }) (ask_rule g p k d n)
   in-ask n j at = in_some (place_of (features_of g d.end) n) (λ i. record { from = dep p k; with = None; to = feat d.end i; lane = Some (lane_of g d); cross = true }) j (named-place g law d.end n j at)
 
@@ -266,7 +265,7 @@ module _ (g : Graph) (law : Lawful g) (p k : ℕ) (d : Dependency) where
   in-asked ρ m = in_right ρ (unless d.optional (record { from = unit p; with = None; to = dep p k; lane = Some (lane_of g d); cross = false })) _ (inr m)
 
 -- each rule that stands is one of them
-pub stands-rule : (g : Graph) → Lawful g → (ρ : Rule) → IsRuleOf g ρ → In ρ (rules g)
+pub stands-rule : (g : Graph) → LawfulGraph g → (ρ : Rule) → IsRuleOf g ρ → In ρ (rules g)
 stands-rule g law _ (needs {p} {k} {d} at o) =
     in-dependency g _ p k d at (in_left _ (unless d.optional _) _ (in-unless d.optional _ o))
 stands-rule g law _ (builds {p} {k} {d} at) =
@@ -299,5 +298,5 @@ stands-rule g law _ (joins {p} {j} {k} {i} {f} {d} {n} {x} at is dat e m) =
     here : In ρ (weak_rule g p j x k d)
     here = in_some (place_of (features_of g d.end) x) (λ a. record { from = feat p j; with = Some (dep p k); to = feat d.end a; lane = Some (lane_of g d); cross = true }) i (named-place g law d.end x i m)
 
-pub rules-law : (g : Graph) → Lawful g → RulesLaw g
+pub rules-law : (g : Graph) → LawfulGraph g → RulesLaw g
 rules-law g law ρ = (rule-stands g ρ, stands-rule g law ρ)

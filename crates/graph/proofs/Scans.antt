@@ -6,7 +6,7 @@ use Rattle.records.specs.declared.faults.RecordFault.{RecordFault}
 use Rattle.records.specs.declared.faults.RecordFault.TheVariants.{Cut}
 use Rattle.records.specs.Frames.{Frame, inside, of_length, frame_of}
 use Rattle.records.proofs.Numbers.{not-both, in-ok}
-use Rattle.graph.specs.Reading.{Cursor, Content, content_of, ReadRecord, with_content, with_frame, after, Reading, carried, on_found, one_record, at_most, scan}
+use Rattle.graph.specs.Reading.{Cursor, Content, content_of, ReadRecord, with_content, with_frame, cursor_after, Reading, with_record, after_record, scan_one, scan_at_most, scan}
 
 inside-size : (xs after : List ℕ) (f : Frame) → inside xs after ≡ Ok f → (length f.body + 2 ≡ length xs) × (f.after ≡ after)
 inside-size [] after f e = absurd (not-both e)
@@ -43,27 +43,27 @@ frame-length bs f e =
     omega (arith, p.1, ap length p.0, length-drop (length f.body + 6) bs)
 
 -- two ways to go on that agree on fewer bytes
-one_same : (k m : Cursor → List ℕ → Reading) (st : Cursor) (bs : List ℕ) → ((u : Cursor) (cs : List ℕ) → length cs < length bs → k u cs ≡ m u cs) → one_record k st bs ≡ one_record m st bs
+one_same : (k m : Cursor → List ℕ → Reading) (st : Cursor) (bs : List ℕ) → ((u : Cursor) (cs : List ℕ) → length cs < length bs → k u cs ≡ m u cs) → scan_one k st bs ≡ scan_one m st bs
 one_same k m st bs same = go (frame_of bs) refl
   where
-    inner : (f : Frame) → length f.after < length bs → (r : Result Content RecordFault) → on_found st k (with_content st f r) ≡ on_found st m (with_content st f r)
+    inner : (f : Frame) → length f.after < length bs → (r : Result Content RecordFault) → after_record st k (with_content st f r) ≡ after_record st m (with_content st f r)
     inner f l (Ok c) =
         let x : ReadRecord = record { content = c; frame = f } in
-        ap (carried st x c) (same (after st x) f.after l)
+        ap (with_record st x c) (same (cursor_after st x) f.after l)
     inner f l (Err e) = refl
 
-    go : (r : Result Frame RecordFault) → frame_of bs ≡ r → on_found st k (with_frame st r) ≡ on_found st m (with_frame st r)
+    go : (r : Result Frame RecordFault) → frame_of bs ≡ r → after_record st k (with_frame st r) ≡ after_record st m (with_frame st r)
     go (Ok f) e = inner f (omega (arith, frame-length bs f e)) (content_of st f)
     go (Err x) e = refl
 
 -- any limit above the number of bytes reads the same
-pub at-most-same : (m n : ℕ) (st : Cursor) (bs : List ℕ) → length bs < m → length bs < n → at_most m st bs ≡ at_most n st bs
-unfolding at_most
+pub at-most-same : (m n : ℕ) (st : Cursor) (bs : List ℕ) → length bs < m → length bs < n → scan_at_most m st bs ≡ scan_at_most n st bs
+unfolding scan_at_most
 at-most-same zero n st bs l k = absurd (omega arith)
 at-most-same (suc m) zero st bs l k = absurd (omega arith)
-at-most-same (suc m) (suc n) st bs l k = one_same (at_most m) (at_most n) st bs (λ u cs s. at-most-same m n u cs (omega arith) (omega arith))
+at-most-same (suc m) (suc n) st bs l k = one_same (scan_at_most m) (scan_at_most n) st bs (λ u cs s. at-most-same m n u cs (omega arith) (omega arith))
 
 -- one record, and then the rest
-pub scan-open : (st : Cursor) (bs : List ℕ) → scan st bs ≡ one_record scan st bs
-unfolding scan at_most
-scan-open st bs = one_same (at_most (length bs)) scan st bs (λ u cs s. at-most-same (length bs) (suc (length cs)) u cs (omega arith) (omega arith))
+pub scan-open : (st : Cursor) (bs : List ℕ) → scan st bs ≡ scan_one scan st bs
+unfolding scan scan_at_most
+scan-open st bs = one_same (scan_at_most (length bs)) scan st bs (λ u cs s. at-most-same (length bs) (suc (length cs)) u cs (omega arith) (omega arith))

@@ -8,7 +8,7 @@ use Rattle.graph.specs.declared.faults.FileFault.{FileFault}
 use Rattle.graph.specs.declared.index.Index.{Index}
 use Rattle.graph.specs.declared.tables.Directory.{Directory}
 use Rattle.graph.specs.Law.{dependencies_in, features_in, Says}
-use Rattle.graph.specs.Places.{dependencies_of, features_of, proc_of, dependencies_before, features_before, no_dependency, no_feature}
+use Rattle.graph.specs.Places.{dependencies_of, features_of, package_at, dependencies_before, features_before, no_dependency, no_feature}
 use Rattle.graph.specs.Second.{DeclarationPlace, places_in_package, places_from, declaration_places, package_record, declarations_length}
 use Rattle.graph.specs.Views.{keys}
 use Rattle.graph.specs.Directory.{RecordAt, no_package, no_declaration_entry, no_place, Accepted, Tells}
@@ -33,7 +33,7 @@ module _ (file : List ℕ) (t : Tables) where
   after-package : (a : Package) (g : Graph) (p start d f : ℕ) → TellsGraph file t p (a ∷ g) start d f → TellsGraph file t (p + 1) g ((start + length (package_record a)) + declarations_length a.declarations) (d + length (dependencies_in a.declarations)) (f + length (features_in a.declarations))
   after-package a g p start d f h = after-parts p (TellsGraph file t (p + 1) g) a.declarations (start + length (package_record a)) d f h.1
 
-  packages-told : (g : Graph) (p start d f : ℕ) → TellsGraph file t p g start d f → (i : ℕ) → i < length g → get_or t.packages (p + i) no_package ≡ record { proc_mark = proc_of g i; dependency = d + dependencies_before g i; feature = f + features_before g i }
+  packages-told : (g : Graph) (p start d f : ℕ) → TellsGraph file t p g start d f → (i : ℕ) → i < length g → get_or t.packages (p + i) no_package ≡ record { proc_mark = (package_at g i).proc; dependency = d + dependencies_before g i; feature = f + features_before g i }
   packages-told [] p start d f h i l = absurd (omega arith)
   packages-told (a ∷ g) p start d f h zero l =
       let x : p + 0 ≡ p = omega arith in
@@ -46,7 +46,7 @@ module _ (file : List ℕ) (t : Tables) where
       let n : ℕ = length (features_in a.declarations) in
       let y : (d + m) + dependencies_before g i ≡ d + (m + dependencies_before g i) = omega arith in
       let z : (f + n) + features_before g i ≡ f + (n + features_before g i) = omega arith in
-      ap (λ j. get_or t.packages j no_package) x ∙ packages-told g (p + 1) _ (d + m) (f + n) (after-package a g p start d f h) i (omega arith) ∙ (λ j. record { proc_mark = proc_of g i; dependency = y j; feature = z j })
+      ap (λ j. get_or t.packages j no_package) x ∙ packages-told g (p + 1) _ (d + m) (f + n) (after-package a g p start d f h) i (omega arith) ∙ (λ j. record { proc_mark = (package_at g i).proc; dependency = y j; feature = z j })
 
   -- the record of dependency i stands where the table says
   abbrev DependencyAt : ℕ → List Declaration → ℕ → Type 0
@@ -145,12 +145,12 @@ module _ (file : List ℕ) (t : Tables) where
 
   -- of a whole graph
   module _ (g : Graph) (told : TellsGraph file t 0 g (length header_bytes) 0 0) where
-    pub package-entry : (p : ℕ) → p < length g → get_or t.packages p no_package ≡ record { proc_mark = proc_of g p; dependency = dependencies_before g p; feature = features_before g p }
+    pub package-entry : (p : ℕ) → p < length g → get_or t.packages p no_package ≡ record { proc_mark = (package_at g p).proc; dependency = dependencies_before g p; feature = features_before g p }
     package-entry p l =
         let x : p ≡ 0 + p = omega arith in
         let y : 0 + dependencies_before g p ≡ dependencies_before g p = omega arith in
         let z : 0 + features_before g p ≡ features_before g p = omega arith in
-        ap (λ n. get_or t.packages n no_package) x ∙ packages-told g 0 (length header_bytes) 0 0 told p l ∙ (λ i. record { proc_mark = proc_of g p; dependency = y i; feature = z i })
+        ap (λ n. get_or t.packages n no_package) x ∙ packages-told g 0 (length header_bytes) 0 0 told p l ∙ (λ i. record { proc_mark = (package_at g p).proc; dependency = y i; feature = z i })
 
     pub dependency-entry : (p k : ℕ) → k < length (dependencies_of g p) → RecordAt file (get_or t.dependencies (dependencies_before g p + k) 0) (dependency (get_or (dependencies_of g p) k no_dependency))
     dependency-entry p k l =

@@ -4,17 +4,17 @@ use Rattle.std.proofs.lemmas.Bool.{cond-false, le-ltb}
 use Rattle.records.specs.Encoding.{encode}
 use Rattle.graph.specs.Examples.{example, typo_example, example_opened, example_words, typo_fault, Examples}
 use Rattle.graph.specs.Opening.{over, after_first, after_second, rows_answer, open_answer, words_after, open_leaves}
-use Rattle.graph.specs.Reading.{first_reading, graph_of, scan, at_most}
+use Rattle.graph.specs.Reading.{first_reading, graph_of, scan, scan_at_most}
 use Rattle.graph.specs.Second.{second_reading}
 use Rattle.graph.specs.Words.{graph_words}
 use Rattle.graph.proofs.OpenLaw.{graph-read}
 
 reads : first_reading (encode example) ≡ Ok (example, 173)
-unfolding scan at_most
+unfolding scan scan_at_most
 reads = refl
 
 reads-typo : first_reading (encode typo_example) ≡ Ok (typo_example, 173)
-unfolding scan at_most
+unfolding scan scan_at_most
 reads-typo = refl
 
 pub opens : (words : List ℕ) → 54 ≤ length words → open_answer (encode example) words ≡ Ok example_opened

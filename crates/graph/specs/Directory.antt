@@ -13,11 +13,11 @@ use Rattle.graph.specs.Law.{LawfulDeclaration, Says, dependency_count, feature_c
 use Rattle.graph.specs.Depending.{Depending, owned, Indexed}
 use Rattle.graph.specs.Gathered.{keys_from}
 use Rattle.graph.specs.Declarations.{declaration_in}
-use Rattle.graph.specs.Places.{no_dependency, no_feature, dependencies_of, features_of, proc_of, dependencies_before, features_before}
+use Rattle.graph.specs.Places.{no_dependency, no_feature, dependencies_of, features_of, package_at, dependencies_before, features_before}
 use Rattle.graph.specs.Second.{DeclarationPlace, declaration_places}
 use Rattle.graph.specs.Views.{keys}
 
--- the record of a lawful part begins at this place of the file
+-- the record of a lawful dependency or feature begins at this place of the file
 pub record RecordAt (file : List ℕ) (start : ℕ) (p : Declaration) : Type 0 where
   pub rest : List ℕ
   pub bytes : drop start file ≡ declaration_bytes p ++ rest
@@ -53,7 +53,7 @@ pub record Tells (dir : Directory) (g : Graph) : Type 0 where
   pub says : Says dir.index.file.now g
   pub keyed : keys dir.index ≡ keys_from 0 g
   pub counted : dir.counts ≡ record { read = length (encode g); packages = length g; dependencies = dependency_count g; features = feature_count g }
-  pub packaged : (p : ℕ) → p < length g → slice_index_or dir.packages p no_package ≡ record { proc_mark = proc_of g p; dependency = dependencies_before g p; feature = features_before g p }
+  pub packaged : (p : ℕ) → p < length g → slice_index_or dir.packages p no_package ≡ record { proc_mark = (package_at g p).proc; dependency = dependencies_before g p; feature = features_before g p }
   pub depending : (p k : ℕ) → k < length (dependencies_of g p) → RecordAt dir.index.file.now (slice_index dir.dependencies (dependencies_before g p + k)) (dependency (slice_index_or (dependencies_of g p) k no_dependency))
   pub featuring : (p k : ℕ) → k < length (features_of g p) → RecordAt dir.index.file.now (slice_index dir.features (features_before g p + k)) (feature (slice_index_or (features_of g p) k no_feature))
   pub parted : (j : ℕ) → j < length (declaration_places g) → RecordAt dir.index.file.now (slice_index_or dir.declarations j no_declaration_entry).start (slice_index_or (declaration_places g) j no_place).declaration × (slice_index_or dir.declarations j no_declaration_entry ≡ record { start = (slice_index_or (declaration_places g) j no_place).start; owner = (slice_index_or (declaration_places g) j no_place).owner })

@@ -25,7 +25,7 @@ pub record Tables : Type 0 where
 abbrev pub tables_of : Directory → Tables
 tables_of dir = record { packages = dir.packages; dependencies = dir.dependencies; features = dir.features; declarations = dir.declarations }
 
--- the tables tell these parts, whose records begin at start; after them k is asked
+-- the tables tell these dependencies and features, whose records begin at start; after them k is asked
 abbrev pub TellsDeclarations : List ℕ → Tables → ℕ → (ℕ → ℕ → ℕ → Type 0) → ℕ → ℕ → ℕ → List Declaration → Type 0
 TellsDeclarations file t owner k start d f [] = k start d f
 TellsDeclarations file t owner k start d f (dependency x ∷ ps) =
@@ -53,7 +53,7 @@ pub record Keeps (t u : Tables) (p d f : ℕ) : Type 0 where
   pub features : (k : ℕ) → k < f → slice_index u.features k ≡ slice_index t.features k
   pub declarations : (k : ℕ) → k < d + f → slice_index_or u.declarations k no_declaration_entry ≡ slice_index_or t.declarations k no_declaration_entry
 
--- These parts of the package at hand and these packages of the file's graph lie ahead; tables that keep the entries so
+-- These dependencies and features of the package at hand and these packages of the file's graph lie ahead; tables that keep the entries so
 -- far and tell those tell all.
 pub record Ahead (file : List ℕ) (t : Tables) (start p d f : ℕ) (ps : List Declaration) (gs : Graph) : Type 0 where
   pub graph : Graph

@@ -5,7 +5,7 @@ use Rattle.graph.specs.declared.contents.Counts.{Counts}
 use Rattle.graph.specs.declared.faults.FileFault.{FileFault}
 use Rattle.graph.specs.declared.faults.FileFault.TheVariants.{Size}
 use Rattle.graph.specs.Keys.{Key}
-use Rattle.graph.specs.Reading.{Cursor, begin, Reading, scan}
+use Rattle.graph.specs.Reading.{Cursor, first_cursor, Reading, scan}
 use Rattle.graph.specs.Limits.{max_bytes}
 use Rattle.graph.specs.Law.{dependencies_in, dependency_count}
 
@@ -36,7 +36,7 @@ gathered st (Ok p) = Ok (record {
 gathered st (Err e) = Err e
 
 abbrev pub gathered_in : List ℕ → Result Gathered FileFault
-gathered_in file = cond (nat_lt max_bytes (length file)) (Err Size) (gathered begin (scan begin file))
+gathered_in file = cond (nat_lt max_bytes (length file)) (Err Size) (gathered first_cursor (scan first_cursor file))
 
 -- what the code answers and holds in its index
 abbrev pub gathered_by : Result Counts FileFault → List Key → Result Gathered FileFault

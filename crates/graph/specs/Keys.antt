@@ -1,5 +1,6 @@
 -- Features, or dependencies, by package and name.
-use Rattle.std.specs.Prelude.{ℕ, Bool, false, ◌&&◌, ◌||◌, List, [], ◌∷◌, ◌==◌}
+use Rattle.std.specs.Prelude.{ℕ, Bool, ◌&&◌, List, ◌==◌}
+use Rattle.std.specs.List.{list_any}
 use Rattle.std.specs.Str.{bytes_eq}
 
 -- the package of an entry, and its name
@@ -11,5 +12,4 @@ abbrev pub is_key : ℕ → List ℕ → Key → Bool
 is_key owner name k = k.owner == owner && bytes_eq k.name name
 
 abbrev pub has_key : ℕ → List ℕ → List Key → Bool
-has_key owner name [] = false
-has_key owner name (k ∷ ks) = is_key owner name k || has_key owner name ks
+has_key owner name ks = list_any (is_key owner name) ks

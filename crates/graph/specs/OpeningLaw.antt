@@ -44,29 +44,29 @@ abbrev pub EndsHave : Graph → ℕ → List ℕ → List ℕ → Type 0
 EndsHave g p n x = (k : ℕ) (d : Dependency) → DependencyAt g p k d → d.name ≡ n → HasFeature g d.end x
 
 -- what a value of package p names is there
-abbrev pub Resolves : Graph → ℕ → Form (List ℕ) → Type 0
-Resolves g p (plain x) = HasFeature g p x
-Resolves g p (switch n) = HasDependency g p n
-Resolves g p (strong n x) = HasDependency g p n × EndsHave g p n x
-Resolves g p (weak n x) = HasDependency g p n × EndsHave g p n x
+abbrev pub ResolvedValue : Graph → ℕ → Form (List ℕ) → Type 0
+ResolvedValue g p (plain x) = HasFeature g p x
+ResolvedValue g p (switch n) = HasDependency g p n
+ResolvedValue g p (strong n x) = HasDependency g p n × EndsHave g p n x
+ResolvedValue g p (weak n x) = HasDependency g p n × EndsHave g p n x
 
 -- every reference of a graph is resolved
-pub record Resolved (g : Graph) : Type 0 where
+pub record ResolvedGraph (g : Graph) : Type 0 where
   pub ends : (p k : ℕ) (d : Dependency) → DependencyAt g p k d → d.end < length g
   pub asks : (p k : ℕ) (d : Dependency) → DependencyAt g p k d → AllByRecursion (HasFeature g d.end) d.asks
-  pub values : (p k : ℕ) (f : Feature) → FeatureAt g p k f → AllByRecursion (Resolves g p) f.values
+  pub values : (p k : ℕ) (f : Feature) → FeatureAt g p k f → AllByRecursion (ResolvedValue g p) f.values
 
 -- the file says this graph, its references are resolved, its rows are few enough and the words suffice
 pub record Opens (file words : List ℕ) (g : Graph) : Type 0 where
   pub says : Says file g
-  pub resolved : Resolved g
+  pub resolved : ResolvedGraph g
   pub few : length (rows g) ≤ max_rule_rows
   pub room : head_words + row_width * length (rows g) ≤ length words
 
 -- what this dependency or feature of package p refers to is there
-abbrev pub Refers : Graph → ℕ → Declaration → Type 0
-Refers g p (dependency d) = (d.end < length g) × AllByRecursion (HasFeature g d.end) d.asks
-Refers g p (feature f) = AllByRecursion (Resolves g p) f.values
+abbrev pub ResolvedDeclaration : Graph → ℕ → Declaration → Type 0
+ResolvedDeclaration g p (dependency d) = (d.end < length g) × AllByRecursion (HasFeature g d.end) d.asks
+ResolvedDeclaration g p (feature f) = AllByRecursion (ResolvedValue g p) f.values
 
 -- the file is no longer than may be, and says no lawful graph
 abbrev pub SaysNone : List ℕ → Type 0
@@ -81,19 +81,19 @@ pub record Behind (file : List ℕ) (number start : ℕ) : Type 0 where
   pub start_is : start ≡ length (flat_map (λ r. record_bytes r.0 r.1) records)
 
 -- the file says a graph, and something that the record at this place refers to is not there
-pub record RefersAmiss (file : List ℕ) (number start : ℕ) : Type 0 where
+pub record UnresolvedRecord (file : List ℕ) (number start : ℕ) : Type 0 where
   pub graph : Graph
   pub says : Says file graph
   pub at : DeclarationPlace
   pub among : In at (declaration_places graph)
   pub number_is : number ≡ at.number
   pub start_is : start ≡ at.start
-  pub amiss : Refers graph at.owner at.declaration → ⊥
+  pub amiss : ResolvedDeclaration graph at.owner at.declaration → ⊥
 
 -- what a file lacks that is refused for a record: with Unknown, something that this record refers to, and with all other
 -- faults, a lawful graph; the record begins behind those before it
 abbrev pub RecordLacks : List ℕ → ℕ → ℕ → RecordFault → Type 0
-RecordLacks file number start (Unknown field) = RefersAmiss file number start
+RecordLacks file number start (Unknown field) = UnresolvedRecord file number start
 RecordLacks file number start Cut = SaysNone file × Behind file number start
 RecordLacks file number start Stray = SaysNone file × Behind file number start
 RecordLacks file number start (Ragged field) = SaysNone file × Behind file number start
@@ -106,8 +106,8 @@ RecordLacks file number start Many = SaysNone file × Behind file number start
 abbrev pub Lacks : List ℕ → List ℕ → FileFault → Type 0
 Lacks file words Size = max_bytes < length file
 Lacks file words (Record x) = RecordLacks file x.number x.start x.fault
-Lacks file words Rows = (g : Graph) × Says file g × Resolved g × (max_rule_rows < length (rows g))
-Lacks file words Memory = (g : Graph) × Says file g × Resolved g × (length (rows g) ≤ max_rule_rows) × (length words < head_words + row_width * length (rows g))
+Lacks file words Rows = (g : Graph) × Says file g × ResolvedGraph g × (max_rule_rows < length (rows g))
+Lacks file words Memory = (g : Graph) × Says file g × ResolvedGraph g × (length (rows g) ≤ max_rule_rows) × (length words < head_words + row_width * length (rows g))
 
 -- Opening accepts exactly such a file, as that graph, of which there is one, and its words stand in front; where it is
 -- refused, what the refusal tells is lacking, and the words are as they were. More may be lacking.

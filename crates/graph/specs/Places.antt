@@ -1,8 +1,8 @@
 -- Items of a graph by place, and their numbers.
-use Rattle.std.specs.Prelude.{ℕ, zero, suc, ◌+◌, Bool, false, List, [], ◌∷◌, length}
+use Rattle.std.specs.Prelude.{ℕ, ◌+◌, false, List, [], length, slice_index_or}
 use Rattle.lanes.specs.declared.edge_kinds.EdgeKind.TheVariants.{Normal}
-use Rattle.records.specs.Graphs.{Dependency, Feature, Declaration, Graph}
-use Rattle.graph.specs.Law.{dependencies_in, features_in, dependency_count, feature_count}
+use Rattle.records.specs.Graphs.{Dependency, Feature, Package, Graph}
+use Rattle.graph.specs.Law.{dependencies_in, features_in, dependency_count, feature_count, count_before}
 
 -- the unit of package p, its dependency k, its feature k
 pub data Item : Type 0 where
@@ -10,17 +10,19 @@ pub data Item : Type 0 where
   dep : (p k : ℕ) → Item
   feat : (p k : ℕ) → Item
 
--- what belongs to package p; nothing beyond the packages
-abbrev pub declarations_of : Graph → ℕ → List Declaration
-declarations_of [] p = []
-declarations_of (a ∷ g) zero = a.declarations
-declarations_of (a ∷ g) (suc p) = declarations_of g p
+-- package p; an empty one beyond the packages
+abbrev pub empty_package : Package
+empty_package = record { proc = false; name = []; declarations = [] }
 
+abbrev pub package_at : Graph → ℕ → Package
+package_at g p = slice_index_or g p empty_package
+
+-- its dependencies, and its features
 abbrev pub dependencies_of : Graph → ℕ → List Dependency
-dependencies_of g p = dependencies_in (declarations_of g p)
+dependencies_of g p = dependencies_in (package_at g p).declarations
 
 abbrev pub features_of : Graph → ℕ → List Feature
-features_of g p = features_in (declarations_of g p)
+features_of g p = features_in (package_at g p).declarations
 
 -- what is read of a list beyond its end
 abbrev pub no_dependency : Dependency
@@ -29,22 +31,12 @@ no_dependency = record { end = 0; edge = Normal; optional = false; defaults = fa
 abbrev pub no_feature : Feature
 no_feature = record { name = []; values = [] }
 
--- whether package p is a procedural macro
-abbrev pub proc_of : Graph → ℕ → Bool
-proc_of [] p = false
-proc_of (a ∷ g) zero = a.proc
-proc_of (a ∷ g) (suc p) = proc_of g p
-
 -- how many dependencies, and features, the packages before p have
 abbrev pub dependencies_before : Graph → ℕ → ℕ
-dependencies_before [] p = 0
-dependencies_before (a ∷ g) zero = 0
-dependencies_before (a ∷ g) (suc p) = length (dependencies_in a.declarations) + dependencies_before g p
+dependencies_before = count_before dependencies_in
 
 abbrev pub features_before : Graph → ℕ → ℕ
-features_before [] p = 0
-features_before (a ∷ g) zero = 0
-features_before (a ∷ g) (suc p) = length (features_in a.declarations) + features_before g p
+features_before = count_before features_in
 
 -- the local number of an item: units first, then dependencies, then features, each in file order
 abbrev pub number : Graph → Item → ℕ

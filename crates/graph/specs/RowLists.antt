@@ -23,11 +23,11 @@ use Rattle.graph.specs.Rules.{lane_of, place_of, when_some, when, unless, each}
 abbrev pub its : Filled → Graph
 its x = graph_of x.directory.now.index.file.now
 
--- the record that starts here is read as this part
+-- the record that starts here is read as this dependency or feature
 abbrev pub ReadsAs : Filled → ℕ → Declaration → Type 0
 ReadsAs x start p = declaration_in (drop start x.directory.now.index.file.now) ≡ Some p
 
--- the records of a table are these parts, numbered so
+-- the records of a table are these dependencies or features, numbered so
 pub record TableOf (x : Filled) (t : Starts) (n : ℕ → ℕ) (declarations : List Declaration) : Type 0 where
   pub count : length t.starts.now ≡ length declarations
   pub records : (k : ℕ) → k < length declarations → ReadsAs x (slice_index t.starts.now k) (slice_index_or declarations k no_place.declaration)
@@ -89,7 +89,7 @@ value_rows g p from (switch n) = each_named g p from n true None
 value_rows g p from (strong n x) = each_named g p from n true (Some x)
 value_rows g p from (weak n x) = each_named g p from n false (Some x)
 
--- the rows of a part of a package, whose number is `item`
+-- the rows of a dependency or feature of a package, whose number is `item`
 abbrev pub declaration_rows : Graph → ℕ → ℕ → Declaration → List Row
 declaration_rows g p item (dependency d) = dependency_rows g p item d
 declaration_rows g p item (feature f) = flat_map (value_rows g p item) f.values

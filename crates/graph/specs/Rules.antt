@@ -1,12 +1,12 @@
 -- The rules of a graph, over places.
-use Rattle.std.specs.Prelude.{ℕ, suc, ◌+◌, Bool, true, false, cond, List, [], ◌∷◌, ◌++◌, Some, None, codes, Option}
-use Rattle.std.specs.List.{flat_map}
+use Rattle.std.specs.Prelude.{ℕ, Bool, true, false, List, [], ◌∷◌, ◌++◌, Some, None, codes, Option, if◌then◌else◌}
+use Rattle.std.specs.List.{flat_map, enumerate_from, position}
 use Rattle.std.specs.Str.{bytes_eq}
 use Rattle.text.specs.Forms.{Form, plain, switch, strong, weak}
 use Rattle.lanes.specs.declared.lane_numbers.Lane.{Lane}
 use Rattle.records.specs.Graphs.{Dependency, Feature, Package, Graph}
 use Rattle.graph.specs.Law.{dependencies_in, features_in}
-use Rattle.graph.specs.Places.{Item, unit, dep, feat, dependencies_of, features_of, proc_of}
+use Rattle.graph.specs.Places.{Item, unit, dep, feat, dependencies_of, features_of, package_at}
 
 -- with its premises active, `from` and `with` if there is one, a rule makes `to` active; it is of a lane, or about
 -- no dependency, and with `cross` its conclusion is on the side where the lane leads
@@ -19,32 +19,25 @@ pub record Rule : Type 0 where
 
 -- the lane of a dependency
 abbrev pub lane_of : Graph → Dependency → Lane
-lane_of g d = record { edge = d.edge; procedural = proc_of g d.end }
-
--- one place further on
-abbrev pub later : Option ℕ → Option ℕ
-later None = None
-later (Some k) = Some (suc k)
+lane_of g d = record { edge = d.edge; procedural = (package_at g d.end).proc }
 
 -- the place of a name among some features
 abbrev pub place_of : List Feature → List ℕ → Option ℕ
-place_of [] n = None
-place_of (f ∷ fs) n = cond (bytes_eq f.name n) (Some 0) (later (place_of fs n))
+place_of fs n = position (λ f. bytes_eq f.name n) fs
 
 abbrev pub when_some : {A B : Type 0} → Option A → (A → B) → List B
 when_some None f = []
 when_some (Some a) f = f a ∷ []
 
 abbrev pub when : {A : Type 0} → Bool → A → List A
-when b a = cond b (a ∷ []) []
+when b a = if b then a ∷ [] else []
 
 -- what each element of a list gives, with its place, from place k on
 abbrev pub each : {A B : Type 0} → (ℕ → A → List B) → ℕ → List A → List B
-each f k [] = []
-each f k (x ∷ xs) = f k x ++ each f (k + 1) xs
+each f k xs = flat_map (λ p. f p.0 p.1) (enumerate_from k xs)
 
 abbrev pub unless : {A : Type 0} → Bool → A → List A
-unless b a = cond b [] (a ∷ [])
+unless b a = if b then [] else a ∷ []
 
 -- dependency k of package p turns on the feature of a name of its end
 abbrev pub ask_rule : Graph → ℕ → ℕ → Dependency → List ℕ → List Rule
@@ -56,7 +49,7 @@ abbrev pub dependency_rules : Graph → ℕ → ℕ → Dependency → List Rule
 dependency_rules g p k d =
     unless d.optional (record { from = unit p; with = None; to = dep p k; lane = Some (lane_of g d); cross = false })
     ++ (record { from = dep p k; with = None; to = unit d.end; lane = Some (lane_of g d); cross = true } ∷ []
-    ++ (cond d.defaults (ask_rule g p k d (codes "default")) []
+    ++ ((if d.defaults then ask_rule g p k d (codes "default") else [])
     ++ flat_map (ask_rule g p k d) d.asks))
 
 -- feature j turns on the optional dependency k
@@ -69,7 +62,7 @@ weak_rule g p j n k d = when_some (place_of (features_of g d.end) n) (λ i. reco
 
 -- for each dependency of a name
 abbrev pub if_named : List ℕ → (ℕ → Dependency → List Rule) → ℕ → Dependency → List Rule
-if_named n f k d = cond (bytes_eq d.name n) (f k d) []
+if_named n f k d = if bytes_eq d.name n then f k d else []
 
 -- a value of feature j of package p
 abbrev pub value_rules : Graph → ℕ → ℕ → Form (List ℕ) → List Rule

@@ -1,5 +1,6 @@
 -- The second reading: everything that is named is there.
-use Rattle.std.specs.Prelude.{ℕ, ◌+◌, Bool, true, false, cond, ◌&&◌, ◌||◌, List, [], ◌∷◌, ◌++◌, length, is_some, Ok, Err, Result, nat_lt}
+use Rattle.std.specs.Prelude.{ℕ, ◌+◌, Bool, true, ◌&&◌, List, [], ◌∷◌, ◌++◌, length, is_some, Ok, Err, Result, nat_lt, if◌then◌else◌}
+use Rattle.std.specs.List.{list_any, list_all}
 use Rattle.std.specs.Str.{bytes_eq}
 use Rattle.text.specs.Forms.{Form, plain, switch, strong, weak, spell}
 use Rattle.records.specs.declared.faults.RecordFault.{RecordFault}
@@ -45,37 +46,35 @@ abbrev pub has_feature : List Feature → List ℕ → Bool
 has_feature fs n = is_some (place_of fs n)
 
 abbrev pub has_dependency : List Dependency → List ℕ → Bool
-has_dependency [] n = false
-has_dependency (d ∷ ds) n = bytes_eq d.name n || has_dependency ds n
+has_dependency ds n = list_any (λ d. bytes_eq d.name n) ds
 
 abbrev pub end_has : Graph → List ℕ → List ℕ → Dependency → Bool
-end_has g n x d = cond (bytes_eq d.name n) (has_feature (features_of g d.end) x) true
+end_has g n x d = if bytes_eq d.name n then has_feature (features_of g d.end) x else true
 
 abbrev pub ends_have : Graph → List Dependency → List ℕ → List ℕ → Bool
-ends_have g [] n x = true
-ends_have g (d ∷ ds) n x = end_has g n x d && ends_have g ds n x
+ends_have g ds n x = list_all (end_has g n x) ds
 
 -- what a feature string of package p names is there
-abbrev pub is_known : Graph → ℕ → Form (List ℕ) → Bool
-is_known g p (plain x) = has_feature (features_of g p) x
-is_known g p (switch n) = has_dependency (dependencies_of g p) n
-is_known g p (strong n x) = has_dependency (dependencies_of g p) n && ends_have g (dependencies_of g p) n x
-is_known g p (weak n x) = has_dependency (dependencies_of g p) n && ends_have g (dependencies_of g p) n x
+abbrev pub is_resolved : Graph → ℕ → Form (List ℕ) → Bool
+is_resolved g p (plain x) = has_feature (features_of g p) x
+is_resolved g p (switch n) = has_dependency (dependencies_of g p) n
+is_resolved g p (strong n x) = has_dependency (dependencies_of g p) n && ends_have g (dependencies_of g p) n x
+is_resolved g p (weak n x) = has_dependency (dependencies_of g p) n && ends_have g (dependencies_of g p) n x
 
--- all of some strings, which begin at a place of their record, are known; each stands behind its length byte
-abbrev pub all_known : {A : Type 0} → (A → Bool) → (A → ℕ) → ℕ → List A → Result (Unit {0}) RecordFault
-all_known test size at [] = Ok tt
-all_known test size at (x ∷ xs) = cond (test x) (all_known test size ((at + 1) + size x) xs) (Err (Unknown (at + 1)))
+-- each of some strings passes the test; they begin at a place of their record, each behind its length byte
+abbrev pub check_each : {A : Type 0} → (A → Bool) → (A → ℕ) → ℕ → List A → Result (Unit {0}) RecordFault
+check_each test size at [] = Ok tt
+check_each test size at (x ∷ xs) = if test x then check_each test size ((at + 1) + size x) xs else Err (Unknown (at + 1))
 
 -- what a dependency or feature of package p names is there; its asks or values begin after its name and the count
-abbrev pub names_known : Graph → ℕ → Declaration → Result (Unit {0}) RecordFault
-names_known g p (dependency d) = all_known (has_feature (features_of g d.end)) length ((dependency_name_place + length d.name) + 1) d.asks
-names_known g p (feature f) = all_known (is_known g p) (λ v. length (spell v)) ((feature_name_place + length f.name) + 1) f.values
+abbrev pub check_names : Graph → ℕ → Declaration → Result (Unit {0}) RecordFault
+check_names g p (dependency d) = check_each (has_feature (features_of g d.end)) length ((dependency_name_place + length d.name) + 1) d.asks
+check_names g p (feature f) = check_each (is_resolved g p) (λ v. length (spell v)) ((feature_name_place + length f.name) + 1) f.values
 
 -- the end of a dependency is a package
-abbrev pub end_known : Graph → Declaration → Result (Unit {0}) RecordFault
-end_known g (dependency d) = cond (nat_lt d.end (length g)) (Ok tt) (Err (Unknown end_place))
-end_known g (feature f) = Ok tt
+abbrev pub check_end : Graph → Declaration → Result (Unit {0}) RecordFault
+check_end g (dependency d) = if nat_lt d.end (length g) then Ok tt else Err (Unknown end_place)
+check_end g (feature f) = Ok tt
 
 -- a record's fault, with the record's number and start, comes before those of the records after it
 abbrev pub or_after : DeclarationPlace → Result (Unit {0}) RecordFault → Result (Unit {0}) InRecord → Result (Unit {0}) InRecord
@@ -87,11 +86,11 @@ abbrev pub check_all : (DeclarationPlace → Result (Unit {0}) RecordFault) → 
 check_all test [] = Ok tt
 check_all test (x ∷ xs) = or_after x (test x) (check_all test xs)
 
-abbrev pub ends : Graph → List DeclarationPlace → Result (Unit {0}) InRecord
-ends g = check_all (λ x. end_known g x.declaration)
+abbrev pub check_ends : Graph → List DeclarationPlace → Result (Unit {0}) InRecord
+check_ends g = check_all (λ x. check_end g x.declaration)
 
-abbrev pub references : Graph → List DeclarationPlace → Result (Unit {0}) InRecord
-references g = check_all (λ x. names_known g x.owner x.declaration)
+abbrev pub check_references : Graph → List DeclarationPlace → Result (Unit {0}) InRecord
+check_references g = check_all (λ x. check_names g x.owner x.declaration)
 
 -- one check, and then another
 abbrev pub then_check : Result (Unit {0}) InRecord → Result (Unit {0}) InRecord → Result (Unit {0}) InRecord
@@ -100,4 +99,4 @@ then_check (Err e) r = Err e
 
 -- all ends, then all asks and feature strings
 abbrev pub second_reading : Graph → Result (Unit {0}) InRecord
-second_reading g = then_check (ends g (declaration_places g)) (references g (declaration_places g))
+second_reading g = then_check (check_ends g (declaration_places g)) (check_references g (declaration_places g))

@@ -15,11 +15,11 @@ use Rattle.graph.specs.declared.faults.InRecord.{InRecord}
 use Rattle.graph.specs.Keys.{Key}
 use Rattle.graph.specs.Buckets.{keys_of}
 use Rattle.graph.specs.Limits.{max_features}
-use Rattle.graph.specs.Reading.{Content, header, heads, declaration, end, Cursor, ReadRecord}
+use Rattle.graph.specs.Reading.{Content, header, package_head, declaration, end, Cursor, ReadRecord}
 
 abbrev pub content_view : code.Content → Content
 content_view variant.Header = header
-content_view (variant.Package p) = heads (package_view p)
+content_view (variant.Package p) = package_head (package_view p)
 content_view (variant.Dependency d) = declaration (dependency (dependency_view d))
 content_view (variant.Feature f) = declaration (feature (feature_view f))
 content_view variant.End = end

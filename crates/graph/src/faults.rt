@@ -34,10 +34,7 @@ impl fmt::Display for InRecord {
             start,
             fault,
         } = *self;
-        write!(
-            f,
-            "record {number}, which starts at byte {start}: {fault:?}"
-        )
+        write!(f, "record {number}, at byte {start}: {fault}")
     }
 }
 

@@ -4,7 +4,7 @@ ghost use Rattle.records.specs.Graphs.{Declaration, dependency, feature};
 ghost use Rattle.graph.specs.Directory.{no_declaration_entry, no_place};
 ghost use Rattle.graph.specs.Limits.{max_local_items};
 ghost use Rattle.graph.specs.RowLists.{its, ReadsAs, PlacedAs};
-ghost use Rattle.graph.specs.Places.{dep, feat, dependencies_of, features_of, proc_of, number, dependencies_before, features_before, no_dependency, no_feature};
+ghost use Rattle.graph.specs.Places.{dep, feat, dependencies_of, features_of, package_at, number, dependencies_before, features_before, no_dependency, no_feature};
 ghost use Rattle.graph.specs.Rules.{place_of};
 ghost use Rattle.graph.specs.Second.{has_feature, declaration_places};
 ghost use Rattle.graph.specs.Views.{declaration_view};
@@ -106,7 +106,7 @@ impl<'a> Filled<'a> {
 
     // Whether a package is a procedural macro.
     pub(crate) fn is_procedural(&self, p: u32) -> bool
-        ensures { result ≡ proc_of (its self.now) p }
+        ensures { result ≡ (package_at (its self.now) p).proc }
     {
         p < self.directory.counts.packages && self.directory.packages[p as usize].proc_mark
     }

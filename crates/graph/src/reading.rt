@@ -5,7 +5,7 @@ ghost use Rattle.text.specs.Views.{map_ok};
 ghost use Rattle.records.specs.Frames.{frame as frame_view};
 ghost use Rattle.records.specs.Fields.{view, outcome_by};
 ghost use Rattle.records.specs.Bodies.{feature_view};
-ghost use Rattle.graph.specs.Reading.{kind_here, feature_field, content_of, record_at, is_end, after};
+ghost use Rattle.graph.specs.Reading.{kind_here, feature_field, content_of, record_at, is_end, cursor_after};
 ghost use Rattle.graph.specs.Limits.{max_bytes};
 ghost use Rattle.graph.specs.Gathered.{gathered_by, gathered_in, Featured};
 ghost use Rattle.graph.specs.Views.{content_view, read_record_view, cursor_view, keys, Fits, locate as locate_in};
@@ -118,7 +118,7 @@ fn read_record<'a>(
 fn cursor_after<'a>(index: &mut Index<'a>, cursor: Cursor, found: ReadRecord<'a>) -> Cursor
     requires fits { Fits index.old.lists.count found.content }
     requires small { (cursor.start + (length found.frame.body.now + 6) ≤ max_bytes) × (cursor.number ≤ max_bytes) × (cursor.packages ≤ max_bytes) × (cursor.dependencies ≤ max_bytes) × (length index.old.file.now ≤ max_bytes) }
-    ensures cursor { cursor_view result (keys index.new) ≡ after (cursor_view cursor (keys index.old)) (read_record_view found.entry) }
+    ensures cursor { cursor_view result (keys index.new) ≡ cursor_after (cursor_view cursor (keys index.old)) (read_record_view found.entry) }
     ensures file { index.new.file.now ≡ index.old.file.now }
 {
     let number = cursor.number + 1;

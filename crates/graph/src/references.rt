@@ -5,7 +5,7 @@ ghost use Rattle.records.specs.Bodies.{texts};
 ghost use Rattle.records.specs.Graphs.{Declaration};
 ghost use Rattle.graph.specs.Checks.{AnswersAs, KnowsAs};
 ghost use Rattle.graph.specs.RowLists.{its};
-ghost use Rattle.graph.specs.Second.{all_known, names_known, end_known, check_all, declaration_places, second_reading};
+ghost use Rattle.graph.specs.Second.{check_each, check_names, check_end, check_all, declaration_places, second_reading};
 ghost use Rattle.graph.specs.Views.{declaration_view};
 
 use crate::contents::{DeclarationRecord, FEATURE_NAME};
@@ -19,11 +19,15 @@ const END_PLACE: usize = 6;
 // Where in its record the name of a dependency begins.
 const DEPENDENCY_NAME: usize = 12;
 
-// Whether all of some strings, which begin at a place of their record, are known.
-fn all_known<F: Fn(&[u8]) -> bool>(strings: Strings, at: usize, known: F) -> Result<(), RecordFault>
+// Whether each of some strings, which begin at a place of their record, is known.
+fn check_each<F: Fn(&[u8]) -> bool>(
+    strings: Strings,
+    at: usize,
+    known: F,
+) -> Result<(), RecordFault>
     requires callable { F.IsAlwaysCallable known }
     requires small { at < 2 ^ 63 + 256 }
-    ensures { (test : List ℕ → Bool) → KnowsAs (F.post known) test → result ≡ all_known test length at (texts strings.entry) }
+    ensures { (test : List ℕ → Bool) → KnowsAs (F.post known) test → result ≡ check_each test length at (texts strings.entry) }
 {
     let mut at = at;
     for text in strings {
@@ -37,24 +41,24 @@ fn all_known<F: Fn(&[u8]) -> bool>(strings: Strings, at: usize, known: F) -> Res
 
 impl<'a> Filled<'a> {
     // Whether what a record names is there.
-    fn names_known(&self, p: u32, declaration: DeclarationRecord) -> Result<(), RecordFault>
-        ensures { result ≡ names_known (its self.now) p (declaration_view declaration.entry) }
+    fn check_names(&self, p: u32, declaration: DeclarationRecord) -> Result<(), RecordFault>
+        ensures { result ≡ check_names (its self.now) p (declaration_view declaration.entry) }
     {
         match declaration {
             DeclarationRecord::Dependency(d) => {
                 let at = DEPENDENCY_NAME + d.name.bytes.len() + 1;
-                all_known(d.asks, at, |name| self.has_feature(u32::from(d.end), name))
+                check_each(d.asks, at, |name| self.has_feature(u32::from(d.end), name))
             }
             DeclarationRecord::Feature(f) => {
                 let at = FEATURE_NAME + f.name.bytes.len() + 1;
-                all_known(f.values, at, |text| self.known(p, text))
+                check_each(f.values, at, |text| self.known(p, text))
             }
         }
     }
 
     // Whether the end of a dependency is a package.
-    fn end_known(&self, declaration: DeclarationRecord) -> Result<(), RecordFault>
-        ensures { result ≡ end_known (its self.now) (declaration_view declaration.entry) }
+    fn check_end(&self, declaration: DeclarationRecord) -> Result<(), RecordFault>
+        ensures { result ≡ check_end (its self.now) (declaration_view declaration.entry) }
     {
         match declaration {
             DeclarationRecord::Dependency(d)
@@ -93,7 +97,7 @@ impl<'a> Filled<'a> {
     pub(crate) fn second_reading(&self) -> Result<(), InRecord>
         ensures { result ≡ second_reading (its self.now) }
     {
-        self.check(|_p, declaration| self.end_known(declaration))?;
-        self.check(|p, declaration| self.names_known(p, declaration))
+        self.check(|_p, declaration| self.check_end(declaration))?;
+        self.check(|p, declaration| self.check_names(p, declaration))
     }
 }

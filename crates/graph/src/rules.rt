@@ -3,7 +3,7 @@ ghost use Rattle.std.specs.Prelude.{◌≡◌};
 ghost use Rattle.std.specs.List.{flat_map};
 ghost use Rattle.records.specs.Bodies.{dependency_view, texts, form_in, forms, bytes_in};
 ghost use Rattle.graph.specs.RowLists.{its, switches, feature_named, row_to, row_found, ask_rows, dependency_rows, switch_rows, weak_rows, each_named, value_rows};
-ghost use Rattle.graph.specs.Places.{proc_of};
+ghost use Rattle.graph.specs.Places.{package_at};
 ghost use Rattle.graph.specs.RowWriters.{write_rows};
 
 use crate::filled::Filled;
@@ -77,7 +77,7 @@ pub(crate) struct Naming<'b> {
 impl<'a> Filled<'a> {
     // The lane of a dependency.
     fn lane(&self, edge: EdgeKind, end: u16) -> Lane
-        ensures { result ≡ record { edge = edge; procedural = proc_of (its self.now) end } }
+        ensures { result ≡ record { edge = edge; procedural = (package_at (its self.now) end).proc } }
     {
         Lane {
             edge,

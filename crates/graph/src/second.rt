@@ -3,7 +3,7 @@ ghost use Rattle.std.specs.Prelude.{◌≡◌};
 ghost use Rattle.records.specs.Bodies.{form_in};
 ghost use Rattle.graph.specs.RowLists.{its};
 ghost use Rattle.graph.specs.Places.{dependencies_of};
-ghost use Rattle.graph.specs.Second.{has_dependency, ends_have, is_known as is_known_in};
+ghost use Rattle.graph.specs.Second.{has_dependency, ends_have, is_resolved};
 
 use crate::filled::Filled;
 use text::{FeatureString, read_feature_string};
@@ -30,7 +30,7 @@ impl<'a> Filled<'a> {
 
     // Whether what a feature string of a package names is there.
     pub(crate) fn known(&self, p: u32, text: &[u8]) -> bool
-        ensures { result ≡ is_known_in (its self.now) p (form_in text.now) }
+        ensures { result ≡ is_resolved (its self.now) p (form_in text.now) }
     {
         match read_feature_string(text) {
             Ok(FeatureString::Plain { feature }) => self.has_feature(p, feature.bytes),

@@ -10,7 +10,7 @@ use Rattle.text.specs.Names.{Name}
 use Rattle.text.specs.Forms.{Form, Piece, spell, LawfulForm, with_places, without_places}
 use Rattle.text.specs.Readers.{read_name, read_form}
 use Rattle.text.proofs.NameRuns.{name-law}
-use Rattle.text.proofs.FormLaws.{form-law, unplaced-placed}
+use Rattle.text.proofs.FormLaws.{form-law, without-with_places}
 use Rattle.records.specs.declared.faults.RecordFault.TheVariants.{Ragged}
 use Rattle.records.specs.declared.faults.InField.{InField}
 use Rattle.lanes.specs.declared.edge_kinds.EdgeKind.{EdgeKind}
@@ -105,9 +105,9 @@ string-complete t rest k =
 module _ {A B : Type 0} (judge : Piece → Result B InField) (out : B → A) (Good : A → Type 0) (text : A → List ℕ)
     (judged : (p : Piece) (b : B) → judge p ≡ Ok b → Good (out b) × (p.text ≡ text (out b)))
     (judges : (a : A) (k : ℕ) → Good a → (b : B) × (judge (record { place = k; text = text a }) ≡ Ok b) × (out b ≡ a)) where
-  placed-ok : (r : Result B InField) (v : View) (a : A) (w : View) → on_ok (or_text r v) (λ b. give (out b)) ≡ Ok (a, w) → (b : B) × (r ≡ Ok b) × (out b ≡ a) × (v ≡ w)
-  placed-ok (Ok b) v a w e = let q = in-ok (out b, v) (a, w) e in (b, refl, ap (λ p. p.0) q, ap (λ p. p.1) q)
-  placed-ok (Err x) v a w e = absurd (not-both e)
+  judged-ok : (r : Result B InField) (v : View) (a : A) (w : View) → on_ok (or_text r v) (λ b. give (out b)) ≡ Ok (a, w) → (b : B) × (r ≡ Ok b) × (out b ≡ a) × (v ≡ w)
+  judged-ok (Ok b) v a w e = let q = in-ok (out b, v) (a, w) e in (b, refl, ap (λ p. p.0) q, ap (λ p. p.1) q)
+  judged-ok (Err x) v a w e = absurd (not-both e)
 
   string-coded : Coded (and_then (λ v. on_ok (string_of v.left v.place) (λ p. or_text (judge p))) (λ b. give (out b))) Good (λ a. string (text a))
   string-coded = record {
@@ -115,7 +115,7 @@ module _ {A B : Type 0} (judge : Piece → Result B InField) (out : B → A) (Go
         let h = first (on_ok (string_of bs k) (λ p. or_text (judge p))) (λ b. give (out b)) a w e in
         let s = string-sound bs k (λ p. or_text (judge p)) h.0 h.1 h.2 in
         let e2 = ap (λ r. on_ok r (λ b. give (out b))) s.3 ∙ h.3 in
-        let j = placed-ok (judge (record { place = k + 1; text = s.0 })) (at s.1 ((k + 1) + length s.0)) a w e2 in
+        let j = judged-ok (judge (record { place = k + 1; text = s.0 })) (at s.1 ((k + 1) + length s.0)) a w e2 in
         let g = judged (record { place = k + 1; text = s.0 }) j.0 j.1 in
         let t : s.0 ≡ text a = g.1 ∙ ap text j.2 in
         (subst Good j.2 g.0, s.2 ∙ (λ i. string (t i) ++ (j.3 i).left), ap (λ v. v.place) (sym j.3) ∙ (let z : (k + 1) + length s.0 ≡ k + length (string (text a)) = omega (arith, ap length t) in z));
@@ -148,7 +148,7 @@ form-judged p f e = go (eqb (length p.text) 0) (read_form p.text) refl e
     go true r q h = absurd (not-both h)
     go false (Ok a) q h =
         let s = (form-law p.text (read_form p.text) refl).sound a q in
-        let o : without_places f ≡ s.0 = ap without_places (sym (in-ok a f h)) ∙ ap without_places s.3 ∙ unplaced-placed s.0 in
+        let o : without_places f ≡ s.0 = ap without_places (sym (in-ok a f h)) ∙ ap without_places s.3 ∙ without-with_places s.0 in
         (subst LawfulForm (sym o) s.1, s.2 ∙ ap spell (sym o))
     go false (Err x) q h = absurd (not-both h)
 
@@ -161,7 +161,7 @@ form-judges f k good = go (spell f) refl
         absurd (not-both a)
     go (x ∷ t) e =
         let a : read_form (x ∷ t) ≡ Ok (with_places f) = (form-law (x ∷ t) (read_form (x ∷ t)) refl).complete f good (sym e) in
-        (with_places f, cond-false _ _ _ (ne_eqb (length (x ∷ t)) 0 (λ z. omega arith)) ∙ ap (in_field k (λ z. z)) a, unplaced-placed f)
+        (with_places f, cond-false _ _ _ (ne_eqb (length (x ∷ t)) 0 (λ z. omega arith)) ∙ ap (in_field k (λ z. z)) a, without-with_places f)
 
 pub form-coded : Coded form_text LawfulForm value
 form-coded = string-coded form_from without_places LawfulForm spell form-judged form-judges

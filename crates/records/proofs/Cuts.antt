@@ -1,4 +1,4 @@
--- The record at the front of the bytes, with its parts as the code cuts them.
+-- The record at the front of the bytes, as the code cuts it.
 use Rattle.std.proofs.Common.{◌≡◌, ℕ, ◌+◌, ◌*◌, ◌<◌, ◌≤◌, List, [], ◌∷◌, length, take, drop, Ok, Err, Result, sym, refl, ap, ◌∙◌, arith}
 use Rattle.std.proofs.lemmas.Bool.{cond-false, le-ltb}
 use Rattle.std.specs.Int.{w16, w32, from_le_bytes}

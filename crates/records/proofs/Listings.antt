@@ -3,7 +3,7 @@ use Rattle.std.proofs.Common.{◌≡◌, ℕ, zero, suc, ◌≤◌, List, [], �
 use Rattle.text.specs.declared.faults.StringFault.{StringFault}
 use Rattle.text.specs.Forms.{Form, Piece, spell, without_places}
 use Rattle.text.specs.Readers.{read_form}
-use Rattle.text.proofs.FormLaws.{form-law, unplaced-placed}
+use Rattle.text.proofs.FormLaws.{form-law, without-with_places}
 use Rattle.records.specs.Bodies.{strings_in, form_or_plain, form_in}
 
 pub listed-length : (n : ℕ) (bs : List ℕ) → length (strings_in n bs) ≤ n
@@ -18,5 +18,5 @@ said-spelled t = go (read_form t) refl
     go : (r : Result (Form Piece) StringFault) → read_form t ≡ r → spell (form_or_plain t r) ≡ t
     go (Ok f) e =
         let s = (form-law t (read_form t) refl).sound f e in
-        ap spell (ap without_places s.3 ∙ unplaced-placed s.0) ∙ sym s.2
+        ap spell (ap without_places s.3 ∙ without-with_places s.0) ∙ sym s.2
     go (Err x) e = refl

@@ -28,9 +28,9 @@ module _ {A B : Type 0} (m : Field B) (f : B → A) (val : List ℕ → A) (shap
       ∙ (λ i. Ok (s.0 i ∷ map val (strings_in n (s.1 i)), p.1))
 
   -- the list of what f keeps, where one is answered, is that of the strings
-  many-told : (n : ℕ) (v : View) → many kept n v ≡ with_value (map val (strings_in n v.left)) (many m n v)
-  many-told zero v = refl
-  many-told (suc n) v = go (m v) (shape v) (λ w. many-told n w)
+  many-kept : (n : ℕ) (v : View) → many kept n v ≡ with_value (map val (strings_in n v.left)) (many m n v)
+  many-kept zero v = refl
+  many-kept (suc n) v = go (m v) (shape v) (λ w. many-kept n w)
     where
       go : (r : Result (B × View) RecordFault) → Shape f val v.left r → ((w : View) → many kept n w ≡ with_value (map val (strings_in n w.left)) (many m n w)) → on_ok (on_ok r (λ b. give (f b))) (λ a. and_then (many kept n) (λ more. give (a ∷ more))) ≡ with_value (map val (strings_in (suc n) v.left)) (on_ok r (λ b. and_then (many m n) (λ more. give (b ∷ more))))
       go (Err e) s h = refl
@@ -47,14 +47,14 @@ module _ {A B : Type 0} (m : Field B) (f : B → A) (val : List ℕ → A) (shap
 
   over-list : (r : Result (ℕ × View) RecordFault) → over (on_ok r (λ n w. with_value (strings_in n w.left) (void (many m n) w))) ≡ on_ok r (many kept)
   unfolding over
-  over-list (Ok p) = over-void (strings_in p.0 p.1.left) (many m p.0 p.1) ∙ sym (many-told p.0 p.1)
+  over-list (Ok p) = over-void (strings_in p.0 p.1.left) (many m p.0 p.1) ∙ sym (many-kept p.0 p.1)
   over-list (Err e) = refl
 
   -- a list that was read is that of what its strings are read as
-  list-told : (r : Result Strings RecordFault) (v w : View) → outcome_by texts r w ≡ list_field m v → outcome_by (λ s. map val (texts s)) r w ≡ and_then byte_field (many kept) v
+  list-kept : (r : Result Strings RecordFault) (v w : View) → outcome_by texts r w ≡ list_field m v → outcome_by (λ s. map val (texts s)) r w ≡ and_then byte_field (many kept) v
   unfolding over
-  list-told (Ok s) v w h = ap over h ∙ over-list (byte_field v)
-  list-told (Err e) v w h = ap over h ∙ over-list (byte_field v)
+  list-kept (Ok s) v w h = ap over h ∙ over-list (byte_field v)
+  list-kept (Err e) v w h = ap over h ∙ over-list (byte_field v)
 
 -- names and feature strings are such readings
 name-shape : (v : View) → Shape {A = List ℕ} {B = Piece} (λ p. p.text) (λ t. t) v.left (name_field v)
@@ -88,9 +88,9 @@ form-shape v = go v.left v.place
         cond_both (ltb (length bs) k) _ _ (λ r. Shape without_places form_in (k ∷ bs) (on_ok r (λ p. or_text (form_from p))))
         (λ _. tt) (λ _. form k at bs)
 
-pub names-told : (r : Result Strings RecordFault) (v w : View) → outcome_by texts r w ≡ list_field name_field v → outcome_by texts r w ≡ names_field v
-names-told (Ok s) v w h = (λ i. Ok (sym (map-id (texts s)) i, w)) ∙ list-told name_field (λ p. p.text) (λ t. t) name-shape (Ok s) v w h
-names-told (Err e) v w h = list-told name_field (λ p. p.text) (λ t. t) name-shape (Err e) v w h
+pub names-kept : (r : Result Strings RecordFault) (v w : View) → outcome_by texts r w ≡ list_field name_field v → outcome_by texts r w ≡ names_field v
+names-kept (Ok s) v w h = (λ i. Ok (sym (map-id (texts s)) i, w)) ∙ list-kept name_field (λ p. p.text) (λ t. t) name-shape (Ok s) v w h
+names-kept (Err e) v w h = list-kept name_field (λ p. p.text) (λ t. t) name-shape (Err e) v w h
 
-pub forms-told : (r : Result Strings RecordFault) (v w : View) → outcome_by texts r w ≡ list_field form_field v → outcome_by forms r w ≡ forms_field v
-forms-told r v w h = list-told form_field without_places form_in form-shape r v w h
+pub forms-kept : (r : Result Strings RecordFault) (v w : View) → outcome_by texts r w ≡ list_field form_field v → outcome_by forms r w ≡ forms_field v
+forms-kept r v w h = list-kept form_field without_places form_in form-shape r v w h

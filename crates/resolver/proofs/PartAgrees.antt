@@ -1,5 +1,6 @@
 -- Agreement goes both ways.
-use Rattle.std.proofs.Common.{ℕ, Bool, T, length, sym, ap, ◌∙◌, subst, arith}
+use Rattle.std.proofs.Common.{ℕ, Bool, length, sym, ap, ◌∙◌, subst, arith}
+use Rattle.std.specs.Prelude.{IsTrue}
 use Rattle.records.specs.Graphs.{Dependency, Graph}
 use Rattle.graph.specs.Places.{Item, unit, dep, feat}
 use Rattle.policy.specs.Answers.{Answers}
@@ -15,7 +16,7 @@ module _ (answers : Answers) (S : ℕ → Bool) (g h : Graph) where
     edge = sym a.edge;
     optional = sym a.optional;
     answer = sym a.answer;
-    target = λ z. let (end, ask, by_default, t) = a.target (a.answer ∙ z) in (sym end, sym ask, sym by_default, subst (λ p. T (S p)) end t);
+    target = λ z. let (end, ask, by_default, t) = a.target (a.answer ∙ z) in (sym end, sym ask, sym by_default, subst (λ p. IsTrue (S p)) end t);
   }
 
   packages-back : (p : ℕ) → PackagesAgree answers S g h p → PackagesAgree answers S h g p

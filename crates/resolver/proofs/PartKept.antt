@@ -1,10 +1,11 @@
 -- The law of closed target parts.
-use Rattle.std.proofs.Common.{◌≡◌, ℕ, ◌<◌, ◌≤◌, ◌≢◌, Bool, true, false, T, ◌⊎◌, List, Some, None, Option, sym, refl, ap, ◌∙◌, subst, inl, inr, ⊎_elim, arith, option_map, IfSome}
+use Rattle.std.proofs.Common.{◌≡◌, ℕ, ◌<◌, ◌≤◌, ◌≢◌, Bool, true, false, ◌⊎◌, List, Some, None, Option, sym, refl, ap, ◌∙◌, subst, inl, inr, ⊎_elim, arith, option_map, IfSome}
+use Rattle.std.specs.Prelude.{IsTrue}
 use Rattle.std.proofs.lemmas.Bool.{cases_lt}
 use Rattle.lanes.specs.declared.lane_numbers.Lane.{Lane}
 use Rattle.records.specs.Graphs.{Graph}
 use Rattle.graph.specs.Opening.{over}
-use Rattle.graph.specs.OpeningLaw.{Resolved, IsRuleOf}
+use Rattle.graph.specs.OpeningLaw.{ResolvedGraph, IsRuleOf}
 use Rattle.graph.specs.Places.{Item, number, item_count}
 use Rattle.graph.specs.Rules.{Rule}
 use Rattle.graph.specs.Words.{graph_words}
@@ -24,7 +25,7 @@ use Rattle.session.specs.SessionLaw.{Active, SessionLaw}
 use Rattle.resolver.specs.Parts.{Agree}
 use Rattle.resolver.specs.PartLaw.{package_of, InPart, target_number, AskedIn, PartKept, OpenedPartLaw}
 use Rattle.resolver.proofs.Simulations.{Decided, told, both, least-simulates}
-use Rattle.resolver.proofs.PartRules.{carry}
+use Rattle.resolver.proofs.PartRules.{counterpart}
 use Rattle.resolver.proofs.PartAgrees.{agree-back, part-back}
 
 -- from the host, no rule leads to the target
@@ -45,11 +46,11 @@ some-held : (P : ℕ → Type 0) (f : Item → ℕ) (m : Option Item) → Held (
 some-held P f None h = tt
 some-held P f (Some x) h = h
 
-module _ (answers : Answers) (lawful : LawfulAnswers answers) (S : ℕ → Bool) (g h : Graph) (resolved : Resolved g) (agree : Agree answers S g h)
+module _ (answers : Answers) (lawful : LawfulAnswers answers) (S : ℕ → Bool) (g h : Graph) (resolved : ResolvedGraph g) (agree : Agree answers S g h)
     (t u : Table) (of : TableOf answers g t) (other : TableOf answers h u) where
   -- the package of an item is in S, and Y has its number in h
   abbrev Shared : (ℕ → Bool) → Item → Type 0
-  Shared Y x = T (S (package_of x)) × T (Y (target_number h x))
+  Shared Y x = IsTrue (S (package_of x)) × IsTrue (Y (target_number h x))
 
   -- a target item of g, by its number, is shared
   abbrev Kept : (ℕ → Bool) → ℕ → Type 0
@@ -79,17 +80,17 @@ module _ (answers : Answers) (lawful : LawfulAnswers answers) (S : ℕ → Bool)
         go l x has q (inl shared) = inl (λ m. (x, has, q, shared))
         go l x has q (inr n) = inr (λ kept. let (y, there, e, shared) = kept l in n (same-shared x y has there (e ∙ sym q) shared))
 
-    kept-mate : (m : Option Item) → Held (Has g) m → Held (λ x. Kept Y (target_number g x)) m → Held (λ x. T (Y (target_number h x))) m
+    kept-mate : (m : Option Item) → Held (Has g) m → Held (λ x. Kept Y (target_number g x)) m → Held (λ x. IsTrue (Y (target_number h x))) m
     kept-mate None has kept = tt
     kept-mate (Some x) has kept = (kept-item x has kept).1
 
     -- a rule of g from the target to the target is one of h, which Y keeps
-    kept-rule : Closed u (λ j. T (Y j)) → (ρ : Rule) → IsRuleOf g ρ → Leads answers Target ρ Target →
+    kept-rule : Closed u (λ j. IsTrue (Y j)) → (ρ : Rule) → IsRuleOf g ρ → Leads answers Target ρ Target →
         Kept Y (target_number g ρ.from) → Held (λ x. Kept Y (target_number g x)) ρ.with → Has g ρ.to × Shared Y ρ.to
     kept-rule closed ρ is_rule leads from with =
         let there = sane g resolved ρ is_rule in
         let (s, y) = kept-item ρ.from there.from from in
-        let c = carry answers S g h agree ρ is_rule leads s in
+        let c = counterpart answers S g h agree ρ is_rule leads s in
         let entry : WatchEntry = record { partner = option_map (target_number h) ρ.with; conclusion = target_number h ρ.to } in
         let (r, q) = other.complete (target_number h ρ.from) entry (record {
           side = Target;
@@ -101,10 +102,10 @@ module _ (answers : Answers) (lawful : LawfulAnswers answers) (S : ℕ → Bool)
           premises = inl (refl, refl);
         }) in (
           there.to,
-          (c.within, closed (target_number h ρ.from) r entry q y (some-held (λ j. T (Y j)) (target_number h) ρ.with (kept-mate ρ.with there.with with))),
+          (c.within, closed (target_number h ρ.from) r entry q y (some-held (λ j. IsTrue (Y j)) (target_number h) ρ.with (kept-mate ρ.with there.with with))),
         )
 
-    kept-closed : Closed u (λ j. T (Y j)) → Closed t (Kept Y)
+    kept-closed : Closed u (λ j. IsTrue (Y j)) → Closed t (Kept Y)
     kept-closed closed i r e q here partner low =
         let w = of.sound i r e q in
         go w.side w.goal w.rule w.is_rule w.leads w.conclusion w.premises
@@ -124,7 +125,7 @@ module _ (answers : Answers) (lawful : LawfulAnswers answers) (S : ℕ → Bool)
             (ρ.to, has, sym c, shared)
 
   one-way : (m n : ℕ) (calls others : List Call) → SessionLaw t m calls → SessionLaw u n others →
-      AskedIn S g h (history t m calls).accepted (history u n others).accepted → T (history u n others).settled →
+      AskedIn S g h (history t m calls).accepted (history u n others).accepted → IsTrue (history u n others).settled →
       (x : Item) → InPart S g x → Active (history t m calls) (target_number g x) → Active (history u n others) (target_number h x)
   one-way m n calls others law second asked settled x part active =
       second.complete settled (target_number h x)
@@ -135,7 +136,7 @@ module _ (answers : Answers) (lawful : LawfulAnswers answers) (S : ℕ → Bool)
       (law.sound (target_number g x) active))
 
 -- for two sessions that keep the law of sessions
-pub part-kept : (answers : Answers) (S : ℕ → Bool) (g h : Graph) (t u : Table) → LawfulAnswers answers → Resolved g → Resolved h →
+pub part-kept : (answers : Answers) (S : ℕ → Bool) (g h : Graph) (t u : Table) → LawfulAnswers answers → ResolvedGraph g → ResolvedGraph h →
     Agree answers S g h → TableOf answers g t → TableOf answers h u →
     (m n : ℕ) (calls others : List Call) → SessionLaw t m calls → SessionLaw u n others → PartKept S g h (history t m calls) (history u n others)
 part-kept answers S g h t u lawful resolved also agree of other m n calls others law second same first last = record {
@@ -147,7 +148,7 @@ part-kept answers S g h t u lawful resolved also agree of other m n calls others
 -- given the law of sessions
 module _ (law : (t : Table) → Laws t → (n : ℕ) (calls : List Call) → SessionLaw t n calls) where
   -- for any tables that are those of the graphs
-  part-law : (answers : Answers) (S : ℕ → Bool) (g h : Graph) (t u : Table) → LawfulAnswers answers → Resolved g → Resolved h →
+  part-law : (answers : Answers) (S : ℕ → Bool) (g h : Graph) (t u : Table) → LawfulAnswers answers → ResolvedGraph g → ResolvedGraph h →
       Agree answers S g h → Laws t → Laws u → TableOf answers g t → TableOf answers h u →
       (m n : ℕ) (calls others : List Call) → PartKept S g h (history t m calls) (history u n others)
   part-law answers S g h t u lawful resolved also agree first second of other m n calls others =

@@ -1,14 +1,15 @@
 -- What holds of the requests, and is kept by each rule, holds of the least set: so two books are compared.
-use Rattle.std.proofs.Common.{ℕ, Bool, true, false, T, ◌⊎◌, List, Some, None, Option, inl, inr, IfSome}
+use Rattle.std.proofs.Common.{◌≡◌, ℕ, Bool, true, false, ◌⊎◌, List, Some, None, Option, refl, inl, inr, IfSome}
+use Rattle.std.specs.Prelude.{IsTrue, Contains}
 use Rattle.rulebook.specs.Tables.{Table}
-use Rattle.session.specs.Least.{OneOf, Closed, Least}
+use Rattle.session.specs.Least.{Closed, Least}
 
 abbrev pub Decided : Type 0 → Type 0
 Decided P = P ⊎ (P → ⊥)
 
-pub told : (b : Bool) → Decided (T b)
-told true = inl tt
-told false = inr (λ x. x)
+pub told : (b : Bool) → Decided (IsTrue b)
+told true = inl refl
+told false = inr (λ (x : false ≡ true). cc)
 
 pub both : {P Q : Type 0} → Decided P → Decided Q → Decided (P × Q)
 both (inl p) (inl q) = inl (p, q)
@@ -20,20 +21,20 @@ module _ {P : Type 0} where
   answer (inl p) = true
   answer (inr n) = false
 
-  yes : (d : Decided P) → P → T (answer d)
-  yes (inl p) q = tt
-  yes (inr n) q = n q
+  yes : (d : Decided P) → P → IsTrue (answer d)
+  yes (inl p) q = refl
+  yes (inr n) q = absurd (n q)
 
-  holds : (d : Decided P) → T (answer d) → P
+  holds : (d : Decided P) → IsTrue (answer d) → P
   holds (inl p) q = p
-  holds (inr n) q = absurd q
+  holds (inr n) q = absurd (cc)
 
 pub some-map : {P Q : ℕ → Type 0} (m : Option ℕ) → ((i : ℕ) → P i → Q i) → IfSome m P → IfSome m Q
 some-map None f h = tt
 some-map (Some i) f h = f i h
 
 -- the least set lies in every set that is decided, holds the requests and is closed
-pub least-within : (t : Table) (xs : List ℕ) (P : ℕ → Type 0) → ((i : ℕ) → Decided (P i)) → ((i : ℕ) → OneOf xs i → P i) → Closed t P → (i : ℕ) → Least t xs i → P i
+pub least-within : (t : Table) (xs : List ℕ) (P : ℕ → Type 0) → ((i : ℕ) → Decided (P i)) → ((i : ℕ) → Contains xs i → P i) → Closed t P → (i : ℕ) → Least t xs i → P i
 least-within t xs P decided asked closed i least =
     holds (decided i) (least (λ j. answer (decided j))
     (λ j o. yes (decided j) (asked j o))
@@ -43,8 +44,8 @@ least-within t xs P decided asked closed i least =
 -- u, each rule of t keeps it if each rule of u keeps Y, and of i it says that j is in Y
 pub least-simulates : (t u : Table) (xs ys : List ℕ) (P : (ℕ → Bool) → ℕ → Type 0) →
     ((Y : ℕ → Bool) (k : ℕ) → Decided (P Y k)) →
-    ((Y : ℕ → Bool) → ((k : ℕ) → OneOf ys k → T (Y k)) → (k : ℕ) → OneOf xs k → P Y k) →
-    ((Y : ℕ → Bool) → Closed u (λ k. T (Y k)) → Closed t (P Y)) →
-    (i j : ℕ) → ((Y : ℕ → Bool) → P Y i → T (Y j)) → Least t xs i → Least u ys j
+    ((Y : ℕ → Bool) → ((k : ℕ) → Contains ys k → IsTrue (Y k)) → (k : ℕ) → Contains xs k → P Y k) →
+    ((Y : ℕ → Bool) → Closed u (λ k. IsTrue (Y k)) → Closed t (P Y)) →
+    (i j : ℕ) → ((Y : ℕ → Bool) → P Y i → IsTrue (Y j)) → Least t xs i → Least u ys j
 least-simulates t u xs ys P decided asked kept i j says least =
     λ Y given closed. says Y (least-within t xs (P Y) (decided Y) (asked Y given) (kept Y closed) i least)

@@ -31,7 +31,7 @@ worked-examples = record {
   steps = refl;
   entries = refl;
   done = refl;
-  because = by_two {row = 5} (lit< tt) (lit< tt) refl;
+  because = by_two {row = 5} refl refl (lit< tt) (lit< tt) refl;
   refused = refl;
   again = refl;
   beyond = refl;

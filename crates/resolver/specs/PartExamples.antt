@@ -14,8 +14,8 @@ plain_gen = record {
   declarations = dependency (record { end = 1; edge = Normal; optional = false; defaults = false; name = codes "core"; asks = [] }) ∷ [];
 }
 
-abbrev pub changed : Graph
-changed = app (codes "io") ∷ core ∷ plain_gen ∷ []
+abbrev pub plain_gen_example : Graph
+plain_gen_example = app (codes "io") ∷ core ∷ plain_gen ∷ []
 
 -- the packages app and core
 abbrev pub app_and_core : ℕ → Bool
@@ -24,5 +24,5 @@ app_and_core p = nat_lt p 2
 -- app needs gen to be built: with host-split that leads to the host, and the change there is not seen from the target;
 -- with unified it leads to gen on the target, which is not of the part
 pub record PartExamples : Type 0 where
-  pub split : Agree host_split app_and_core example changed
-  pub joint : Agree unified app_and_core example changed → ⊥
+  pub split : Agree host_split app_and_core example plain_gen_example
+  pub joint : Agree unified app_and_core example plain_gen_example → ⊥

@@ -14,6 +14,7 @@ use Rattle.session.specs.declared.calls.Answer.{Answer}
 use Rattle.session.specs.declared.calls.Answer.TheVariants as answer
 use Rattle.session.specs.Causes.{Because}
 use Rattle.session.specs.Refusals.{session_refusal}
+use Rattle.session.specs.Trails.{request_record, conclusion_record}
 use Rattle.session.specs.States.{State, open_session, request_all, settle_run, request_answer, settle_answer}
 use Rattle.session.specs.Histories.{Call, request, settle, answers_from, History, history}
 use Rattle.session.specs.SessionLaw.{sum_active, watch_entries}
@@ -34,31 +35,28 @@ example_items = 0 ∷ 6 ∷ []
 abbrev pub example_asked : State
 example_asked = request_all new_session example_items
 
--- trail records: an item without causes, with one, and with two
-abbrev pub asked : ℕ → TrailRecord
-asked i = record { item = i; first = None; second = None }
+-- trail records: an item with one cause, and with two
+abbrev pub one_cause : ℕ → ℕ → TrailRecord
+one_cause i k = conclusion_record i k None
 
-abbrev pub caused : ℕ → ℕ → TrailRecord
-caused i k = record { item = i; first = Some k; second = None }
-
-abbrev pub joined : ℕ → ℕ → ℕ → TrailRecord
-joined i k j = record { item = i; first = Some k; second = Some j }
+abbrev pub two_causes : ℕ → ℕ → ℕ → TrailRecord
+two_causes i k j = conclusion_record i k (Some j)
 
 -- what becomes active, in order; items from 10 on are on the host
 abbrev pub example_trail : List TrailRecord
 example_trail =
-    asked 0
-    ∷ asked 6
-    ∷ caused 4 0
-    ∷ caused 7 1
-    ∷ caused 12 2
-    ∷ caused 3 3
-    ∷ joined 8 3 5
-    ∷ caused 15 4
-    ∷ caused 1 5
-    ∷ caused 11 7
-    ∷ caused 19 7
-    ∷ caused 18 10
+    request_record 0
+    ∷ request_record 6
+    ∷ one_cause 4 0
+    ∷ one_cause 7 1
+    ∷ one_cause 12 2
+    ∷ one_cause 3 3
+    ∷ two_causes 8 3 5
+    ∷ one_cause 15 4
+    ∷ one_cause 1 5
+    ∷ one_cause 11 7
+    ∷ one_cause 19 7
+    ∷ one_cause 18 10
     ∷ []
 
 -- how many of the items below n are active
@@ -98,7 +96,7 @@ pub record WorkedExamples : Type 0 where
   pub entries : watch_entries example_table example_history.state ≡ 11
   pub done : example_history.settled ≡ true
   -- item 8 has trail number 6 since item 7, with trail number 3, has an entry with the partner 3, which has trail number 5
-  pub because : Because example_table example_trail example_items 6 (joined 8 3 5)
+  pub because : Because example_table example_trail example_items 6 (two_causes 8 3 5)
   -- a request that is refused gives nothing; one that is accepted, also of no items, is to be settled again
   pub refused : (history example_table 20 (request (0 ∷ 20 ∷ []) ∷ [])).accepted ≡ []
   pub again : (history example_table 20 (example_calls ++ request [] ∷ [])).settled ≡ false

@@ -8,7 +8,7 @@ use Rattle.graph.specs.declared.rows.Row.{Row}
 use Rattle.graph.specs.declared.graph_words.WordCounts.{WordCounts}
 use Rattle.graph.specs.Law.{dependency_count, feature_count}
 use Rattle.graph.specs.Opening.{over}
-use Rattle.graph.specs.OpeningLaw.{In, NamedAt, Opens, Resolved, IsRuleOf, needs, builds, defaults, asks, plainly, switches, joins}
+use Rattle.graph.specs.OpeningLaw.{In, NamedAt, Opens, ResolvedGraph, IsRuleOf, needs, builds, defaults, asks, plainly, switches, joins}
 use Rattle.graph.specs.Places.{Item, unit, feat, number, item_count}
 use Rattle.graph.specs.Rules.{Rule, rules}
 use Rattle.graph.specs.Items.{item_on, side_of}
@@ -46,7 +46,7 @@ pub record Sane (g : Graph) (ρ : Rule) : Type 0 where
 named-has : (g : Graph) (p k : ℕ) (n : List ℕ) → NamedAt g p k n → Has g (feat p k)
 named-has g p k n h = h.1.0
 
-module _ (g : Graph) (resolved : Resolved g) where
+module _ (g : Graph) (resolved : ResolvedGraph g) where
   pub sane : (ρ : Rule) → IsRuleOf g ρ → Sane g ρ
   sane ρ (needs {p} {k} {d} at o) = record { from = dependency-owner g p k at.0; with = tt; to = at.0 }
   sane ρ (builds {p} {k} {d} at) = record { from = at.0; with = tt; to = resolved.ends p k d at }

@@ -1,12 +1,12 @@
 -- What the trail number of an item tells.
-use Rattle.std.proofs.Common.{◌≡◌, ℕ, ◌+◌, ◌<◌, ◌≤◌, Bool, true, false, cond, ◌||◌, eqb, List, [], ◌∷◌, length, is_some, take, Some, None, Option, refl, ◌∙◌, arith}
+use Rattle.std.proofs.Common.{◌≡◌, ℕ, ◌+◌, ◌<◌, ◌≤◌, Bool, true, false, cond, ◌||◌, eqb, List, [], ◌∷◌, length, is_some, take, Some, None, Option, option_map, refl, ◌∙◌, arith}
 use Rattle.std.specs.Prelude.{IfSome}
 use Rattle.std.proofs.lemmas.Option.{none-some, same_Some}
 use Rattle.std.proofs.lemmas.List.{length-take-le}
 use Rattle.session.specs.declared.trail.TrailRecord.{TrailRecord}
-use Rattle.session.specs.Trails.{active, later, find, cause_of}
+use Rattle.session.specs.Trails.{active, find, cause_of}
 
-is-some-later : (o : Option ℕ) → is_some (later o) ≡ is_some o
+is-some-later : (o : Option ℕ) → is_some (option_map (λ k. k + 1) o) ≡ is_some o
 is-some-later None = refl
 is-some-later (Some k) = refl
 
@@ -15,7 +15,7 @@ pub found-active : (t : List TrailRecord) (i : ℕ) → is_some (find t i) ≡ a
 found-active [] i = refl
 found-active (r ∷ t) i = go (eqb r.item i) (is-some-later (find t i) ∙ found-active t i)
   where
-    go : (b : Bool) → is_some (later (find t i)) ≡ active t i → is_some (cond b (Some 0) (later (find t i))) ≡ (b || active t i)
+    go : (b : Bool) → is_some (option_map (λ k. k + 1) (find t i)) ≡ active t i → is_some (cond b (Some 0) (option_map (λ k. k + 1) (find t i))) ≡ (b || active t i)
     go true h = refl
     go false h = h
 
@@ -24,7 +24,7 @@ pub found-within : (t : List TrailRecord) (i k : ℕ) → find t i ≡ Some k �
 found-within [] i k e = absurd (none-some k e)
 found-within (r ∷ t) i k e = go (eqb r.item i) (find t i) (found-within t i) e
   where
-    go : (b : Bool) (o : Option ℕ) → ((j : ℕ) → o ≡ Some j → j < length t) → cond b (Some 0) (later o) ≡ Some k → k < length (r ∷ t)
+    go : (b : Bool) (o : Option ℕ) → ((j : ℕ) → o ≡ Some j → j < length t) → cond b (Some 0) (option_map (λ k. k + 1) o) ≡ Some k → k < length (r ∷ t)
     go true o h q = let z : 0 ≡ k = same_Some 0 k q in omega arith
     go false None h q = absurd (none-some k q)
     go false (Some j) h q = let z : j + 1 ≡ k = same_Some (j + 1) k q in omega (arith, h j refl)

@@ -1,5 +1,6 @@
 -- Rules that have fired: a rule fires once its row is worked from each of its premises.
-use Rattle.std.proofs.Common.{◌≡◌, ℕ, ◌<◌, T, ◌⊎◌, take, drop, Some, None, Option, ap, ◌∙◌, subst, ⊎_elim, IfSome}
+use Rattle.std.proofs.Common.{◌≡◌, ℕ, ◌<◌, ◌⊎◌, take, drop, Some, None, Option, ap, ◌∙◌, subst, ⊎_elim, IfSome}
+use Rattle.std.specs.Prelude.{IsTrue}
 use Rattle.std.proofs.lemmas.List.{take-append-drop}
 use Rattle.rulebook.specs.declared.entries.WatchEntry.{WatchEntry}
 use Rattle.rulebook.specs.Tables.{Table, Laws}
@@ -9,7 +10,7 @@ use Rattle.session.proofs.TrailFacts.{Active, Head, active-left, active-right, h
 
 -- row r of item i is worked: the item is before the worked place, or at it and the row is before the worked row
 abbrev pub Worked : State → ℕ → ℕ → Type 0
-Worked s r i = T (active (take s.position s.trail) i) ⊎ (Head (drop s.position s.trail) i × (r < s.row))
+Worked s r i = IsTrue (active (take s.position s.trail) i) ⊎ (Head (drop s.position s.trail) i × (r < s.row))
 
 abbrev pub Fired : Table → State → Type 0
 Fired table s = (i r : ℕ) (e : WatchEntry) → table.entry i r ≡ Some e → Worked s r i → IfSome e.partner (Worked s r) → Active s e.conclusion
@@ -18,7 +19,7 @@ pub worked-active : (s : State) (r i : ℕ) → Worked s r i → Active s i
 worked-active s r i w =
     let t = s.trail in
     let p = s.position in
-    subst (λ l. T (active l i)) (take-append-drop p t)
+    subst (λ l. IsTrue (active l i)) (take-append-drop p t)
     (⊎_elim (active-left (take p t) (drop p t) i) (λ h. active-right (take p t) (drop p t) i (head-active (drop p t) i h.0)) w)
 
 -- From state s to state t the rows that are newly worked are those of one item, Fresh ones, and their rules fire. Then

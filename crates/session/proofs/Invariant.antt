@@ -1,5 +1,6 @@
 -- The invariant of a session's state by one rulebook, and the three changes that keep its core.
-use Rattle.std.proofs.Common.{◌≡◌, ℕ, ◌+◌, ◌<◌, ◌≤◌, false, T, ◌⊎◌, List, [], ◌∷◌, ◌++◌, length, take, drop, Some, None, Option, sym, refl, ap, ◌∙◌, subst, inl, inr, ⊎_elim, arith, add-one, IfSome}
+use Rattle.std.proofs.Common.{◌≡◌, ℕ, ◌+◌, ◌<◌, ◌≤◌, false, ◌⊎◌, List, [], ◌∷◌, ◌++◌, length, take, drop, Some, None, Option, sym, refl, ap, ◌∙◌, subst, inl, inr, ⊎_elim, arith, add-one, IfSome}
+use Rattle.std.specs.Prelude.{IsTrue, Contains}
 use Rattle.std.proofs.lemmas.Bool.{cases_lt}
 use Rattle.std.proofs.lemmas.List.{length-drop, length-append, take-append-le, drop-append-le}
 use Rattle.rulebook.specs.declared.entries.WatchEntry.{WatchEntry}
@@ -8,7 +9,6 @@ use Rattle.rulebook.specs.Tables.{Table, Laws, seek}
 use Rattle.session.specs.declared.trail.TrailRecord.{TrailRecord}
 use Rattle.session.specs.Trails.{active}
 use Rattle.session.specs.States.{State, with_trail, with_position}
-use Rattle.session.specs.Least.{OneOf}
 use Rattle.session.specs.SessionLaw.{sum_active}
 use Rattle.session.proofs.Seeks.{Bare, First, seek-none, seek-some}
 use Rattle.session.proofs.TrailFacts.{Active, At, Head, active-left, active-cases, active-one, take_next, at-active, at-inside, some_map}
@@ -34,7 +34,7 @@ pub record Core (table : Table) (asked : List ℕ) (steps : ℕ) (s : State) : T
 pub record Invariant (table : Table) (asked : List ℕ) (steps : ℕ) (s : State) : Type 0 where
   pub core : Core table asked steps s
   -- the items asked for are active
-  pub held : (i : ℕ) → OneOf asked i → Active s i
+  pub held : (i : ℕ) → Contains asked i → Active s i
 
 no_entry : (o : Option WatchEntry) (e : WatchEntry) → o ≡ None → o ≡ Some e → ⊥
 no_entry o e p q = cc
@@ -66,10 +66,10 @@ module _ (table : Table) (laws : Laws table) (asked : List ℕ) (k : ℕ) (s : S
       bare : Bare (table.entry x.item) s.row table.rows
       bare = seek-none table x.item s.row e
 
-      split : (i : ℕ) → T (active (take (s.position + 1) s.trail) i) → T (active (take s.position s.trail) i) ⊎ (x.item ≡ i)
+      split : (i : ℕ) → IsTrue (active (take (s.position + 1) s.trail) i) → IsTrue (active (take s.position s.trail) i) ⊎ (x.item ≡ i)
       split i h = ⊎_elim (λ v. inl v) (λ v. inr (active-one x i v))
           (active-cases (take s.position s.trail) (x ∷ []) i
-          (subst (λ l. T (active l i)) (ap (λ j. take j s.trail) (add-one s.position) ∙ take_next s.position s.trail x xs d) h))
+          (subst (λ l. IsTrue (active l i)) (ap (λ j. take j s.trail) (add-one s.position) ∙ take_next s.position s.trail x xs d) h))
 
       news : (r i : ℕ) → Worked (with_position s (s.position + 1) 0) r i → Worked s r i ⊎ ((x.item ≡ i) × (s.row ≤ r))
       news r i (inr h) = absurd (omega (arith, h.1))
@@ -125,7 +125,7 @@ module _ (table : Table) (laws : Laws table) (asked : List ℕ) (k : ℕ) (s : S
       head (y ∷ t) i r z h l = h
 
       was : (r i : ℕ) → Worked (with_trail s (s.trail ++ x ∷ [])) r i → Worked s r i
-      was r i (inl h) = inl (subst (λ l. T (active l i)) (take-append-le s.position s.trail (x ∷ []) c.inside) h)
+      was r i (inl h) = inl (subst (λ l. IsTrue (active l i)) (take-append-le s.position s.trail (x ∷ []) c.inside) h)
       was r i (inr h) = inr (head _ i r c.fresh (subst (λ l. Head l i) (drop-append-le s.position s.trail (x ∷ []) c.inside) h.0) h.1, h.1)
 
 -- The trail has no more records than the session has items, and fewer where an item is not active.

@@ -1,21 +1,21 @@
 -- What the calls on a session keep, and so every history.
-use Rattle.std.proofs.Common.{◌≡◌, ℕ, ◌+◌, ◌<◌, Bool, true, false, cond, not, ◌&&◌, T, List, [], ◌∷◌, ◌++◌, drop, Some, None, Option, sym, refl, ap, ◌∙◌, subst, inl, inr, ⊎_elim, arith, append_assoc, append-nil, eqb-true, ltb-true, ltb, IfSome}
+use Rattle.std.proofs.Common.{◌≡◌, ℕ, ◌+◌, ◌<◌, Bool, true, false, cond, not, ◌&&◌, List, [], ◌∷◌, ◌++◌, drop, Some, None, Option, sym, refl, ap, ◌∙◌, subst, ⊎_elim, arith, append_assoc, append-nil, eqb-true, ltb-true, ltb, IfSome}
+use Rattle.std.specs.Prelude.{IsTrue}
 use Rattle.std.specs.List.{fold}
 use Rattle.std.proofs.lemmas.Bool.{and_parts}
-use Rattle.std.proofs.lemmas.Float.{T_from_true}
 use Rattle.std.proofs.lemmas.List.{drop-append-le}
+use Rattle.std.proofs.lemmas.List.Elements.{Contains-append_left, Contains-push, Contains-push_cases}
 use Rattle.rulebook.specs.declared.entries.RowEntry.{RowEntry}
 use Rattle.rulebook.specs.Tables.{Table, Laws, seek}
 use Rattle.session.specs.declared.trail.TrailRecord.{TrailRecord}
-use Rattle.session.specs.Trails.{active, grants, cause_of}
+use Rattle.session.specs.Trails.{request_record, conclusion_record, active, grants, cause_of}
 use Rattle.session.specs.States.{State, with_trail, with_position, request_one, request_all, all_below, take_entry, outcome_of, settle_run, fits}
-use Rattle.session.specs.Least.{OneOf}
 use Rattle.session.specs.Histories.{Call, request, settle, active as active_call, reason, History, history}
 use Rattle.session.proofs.Pasts.{begun, reported, after_request, after_settle, called, past-history}
 use Rattle.session.proofs.Seeks.{seek-some}
 use Rattle.session.proofs.TrailFacts.{Active, At, active-left, active-right, active-head, at-active, some_map}
 use Rattle.session.proofs.ActiveSums.{sum_active-none}
-use Rattle.session.proofs.Derivations.{Derived, given, derived_by, derived_mono, one-left, one-right, one-cases}
+use Rattle.session.proofs.Derivations.{Derived, given, derived_by, derived_mono}
 use Rattle.session.proofs.SettleKeeps.{Ended, settled-keeps, reported-steps}
 use Rattle.session.proofs.Invariant.{Core, Invariant, moved-core, row-core, push-core}
 
@@ -24,27 +24,23 @@ pub record Kept (table : Table) (n : ℕ) (h : History) : Type 0 where
   pub invariant : Invariant table h.accepted h.steps h.state
   pub count : h.state.items ≡ n
   -- while it is settled, no trail item is left
-  pub rests : T h.settled → drop h.state.position h.state.trail ≡ []
-
-pub true_from_T : (b : Bool) → T b → b ≡ true
-true_from_T true h = refl
-true_from_T false h = absurd h
+  pub rests : IsTrue h.settled → drop h.state.position h.state.trail ≡ []
 
 granted-from : (s : State) (b : Option ℕ) → IfSome b (Active s) → grants s.trail b ≡ true
 granted-from s None h = refl
-granted-from s (Some b) h = true_from_T (active s.trail b) h
+granted-from s (Some b) h = h
 
 granted-some : (s : State) (b : Option ℕ) → grants s.trail b ≡ true → IfSome b (Active s)
 granted-some s None h = tt
-granted-some s (Some b) h = T_from_true _ h
+granted-some s (Some b) h = h
 
 pub and_not_true : (a b : Bool) → (a && not b) ≡ true → (a ≡ true) × (b ≡ false)
 and_not_true true true h = absurd (cc)
 and_not_true true false h = (refl, refl)
 and_not_true false b h = absurd (cc)
 
-and_not_false : (a b : Bool) → (a && not b) ≡ false → a ≡ true → T b
-and_not_false a true h x = tt
+and_not_false : (a b : Bool) → (a && not b) ≡ false → a ≡ true → b ≡ true
+and_not_false a true h x = refl
 and_not_false true false h x = cc
 and_not_false false false h x = cc
 
@@ -65,7 +61,7 @@ module _ (table : Table) (laws : Laws table) where
       core = v.0.core
 
       new : TrailRecord
-      new = record { item = f.entry.conclusion; first = Some s.position; second = cause_of s.trail f.entry.partner }
+      new = conclusion_record f.entry.conclusion s.position (cause_of s.trail f.entry.partner)
 
       go : (b : Bool) → (grants s.trail f.entry.partner && not (active s.trail f.entry.conclusion)) ≡ b →
           Settles asked (k + 1) (with_position (cond b (with_trail s (s.trail ++ new ∷ [])) s) s.position (f.row + 1))
@@ -99,38 +95,34 @@ module _ (table : Table) (laws : Laws table) where
   requested_one-keeps asked k s i lt v = go (active s.trail i) refl
     where
       new : TrailRecord
-      new = record { item = i; first = None; second = None }
+      new = request_record i
 
       wide : Core table (asked ++ i ∷ []) k s
       wide = let c = v.core in record {
         inside = c.inside;
         fresh = c.fresh;
         low = c.low;
-        sound = λ j h. derived_mono table asked (asked ++ i ∷ []) (one-left asked (i ∷ [])) j (c.sound j h);
+        sound = λ j h. derived_mono table asked (asked ++ i ∷ []) (Contains-append_left asked (i ∷ [])) j (c.sound j h);
         fired = c.fired;
         spent = c.spent;
         whole = c.whole;
       }
 
-      last : (j : ℕ) → OneOf (i ∷ []) j → i ≡ j
-      last j (inl h) = h
-      last j (inr h) = absurd h
-
       go : (b : Bool) → active s.trail i ≡ b → let t = cond b s (with_trail s (s.trail ++ new ∷ [])) in Invariant table (asked ++ i ∷ []) k t × (t.items ≡ s.items)
       go true h = (
         record {
           core = wide;
-          held = λ j m. ⊎_elim (v.held j) (λ u. subst (Active s) (last j u) (T_from_true _ h)) (one-cases asked (i ∷ []) j m);
+          held = λ j m. ⊎_elim (v.held j) (λ u. subst (Active s) u h) (Contains-push_cases asked i j m);
         },
         refl,
       )
       go false h = (
         record {
-          core = push-core table laws (asked ++ i ∷ []) k s new (given (one-right asked (i ∷ []) i (inl refl))) h lt wide;
+          core = push-core table laws (asked ++ i ∷ []) k s new (given (Contains-push asked i)) h lt wide;
           held = λ j m. ⊎_elim
               (λ u. active-left s.trail (new ∷ []) j (v.held j u))
-              (λ u. subst (λ l. T (active (s.trail ++ new ∷ []) l)) (last j u) (active-right s.trail (new ∷ []) i (active-head new [])))
-              (one-cases asked (i ∷ []) j m);
+              (λ u. subst (λ l. IsTrue (active (s.trail ++ new ∷ []) l)) u (active-right s.trail (new ∷ []) i (active-head new [])))
+              (Contains-push_cases asked i j m);
         },
         refl,
       )
@@ -152,8 +144,8 @@ module _ (table : Table) (laws : Laws table) where
       let ends = settled-keeps table (Settles h.accepted) (moved-keeps h.accepted) (taken-keeps h.accepted) b h.steps h.state (kept.invariant, same) in
       (subst (λ j. Settles h.accepted (h.steps + j) r.state) (sym (reported-steps table b h.state)) ends.0, ends.1)
 
-  ended-rests : (s : State) (pending : Bool) → Ended table s pending → T (not pending) → drop s.position s.trail ≡ []
-  ended-rests s true e h = absurd h
+  ended-rests : (s : State) (pending : Bool) → Ended table s pending → IsTrue (not pending) → drop s.position s.trail ≡ []
+  ended-rests s true e h = cc
   ended-rests s false e h = e
 
   pub called-keeps : (n : ℕ) (h : History) (c : Call) → Kept table n h → Kept table n (called table h c)
@@ -174,7 +166,7 @@ module _ (table : Table) (laws : Laws table) where
       go false e = kept
       go true e =
           let more = requested-keeps h.accepted h.steps is h.state e kept.invariant in
-          record { invariant = more.0; count = more.1 ∙ kept.count; rests = λ x. absurd x }
+          record { invariant = more.0; count = more.1 ∙ kept.count; rests = λ (x : false ≡ true). cc }
 
   pub begun-kept : (n : ℕ) → Kept table n (begun n)
   begun-kept n = record {
@@ -183,15 +175,15 @@ module _ (table : Table) (laws : Laws table) where
         inside = omega arith;
         fresh = λ _. refl;
         low = omega arith;
-        sound = λ i h. absurd h;
-        fired = λ i r e q w a. ⊎_elim (λ h. absurd h) (λ h. absurd h.0) w;
+        sound = λ i (h : false ≡ true). cc;
+        fired = λ i r e q w a. ⊎_elim (λ (h : false ≡ true). cc) (λ h. absurd h.0) w;
         spent = refl;
         whole = λ w. sum_active-none w n;
       };
-      held = λ i h. absurd h;
+      held = λ i h. absurd (omega (arith, h.1));
     };
     count = refl;
-    rests = λ h. absurd h;
+    rests = λ (h : false ≡ true). cc;
   }
 
   calls-keep : (n : ℕ) (calls : List Call) (h : History) → Kept table n h → Kept table n (fold (called table) h calls)

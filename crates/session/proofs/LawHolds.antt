@@ -1,5 +1,6 @@
 -- The law of sessions: soundness, completeness and the step sum.
-use Rattle.std.proofs.Common.{◌≡◌, ℕ, zero, suc, ◌+◌, ◌*◌, ◌<◌, ◌≤◌, Bool, true, false, cond, T, List, [], ◌∷◌, ◌++◌, take, Some, Ok, Err, sym, refl, ap, ◌∙◌, subst, inl, arith, add-one, append-nil, eqb-true}
+use Rattle.std.proofs.Common.{◌≡◌, ℕ, zero, suc, ◌+◌, ◌*◌, ◌<◌, ◌≤◌, Bool, true, false, cond, List, [], ◌∷◌, ◌++◌, take, Some, Ok, Err, sym, refl, ap, ◌∙◌, subst, inl, arith, add-one, append-nil, eqb-true}
+use Rattle.std.specs.Prelude.{IsTrue}
 use Rattle.std.specs.List.{slice_get}
 use Rattle.std.proofs.lemmas.List.{take-append-drop}
 use Rattle.std.proofs.lemmas.Option.{none-some, same_Some, get_or_from_slice_get, slice_get_within}
@@ -26,16 +27,16 @@ use Rattle.session.proofs.Kept.{Kept, settled-ends, history-kept}
 use Rattle.session.proofs.Reasons.{history-reasons}
 
 -- while a session is settled, its active items are closed by the rules
-pub settled-closed : (table : Table) (n : ℕ) (h : History) → Kept table n h → T h.settled → Closed table (Active h.state)
+pub settled-closed : (table : Table) (n : ℕ) (h : History) → Kept table n h → IsTrue h.settled → Closed table (Active h.state)
 settled-closed table n h kept z i r e q a b =
     kept.invariant.core.fired i r e q (inl (all i a)) (some_map (Active h.state) (Worked h.state r) (λ j m. inl (all j m)) e.partner b)
   where
-    all : (j : ℕ) → Active h.state j → T (active (take h.state.position h.state.trail) j)
+    all : (j : ℕ) → Active h.state j → IsTrue (active (take h.state.position h.state.trail) j)
     all j m =
         let p = h.state.position in
         let t = h.state.trail in
         let e : take p t ≡ t = sym (append-nil (take p t)) ∙ ap (λ l. take p t ++ l) (sym (kept.rests z)) ∙ take-append-drop p t in
-        subst (λ l. T (active l j)) (sym e) m
+        subst (λ l. IsTrue (active l j)) (sym e) m
 
 -- the step sum where no trail item is left, and where an entry is due
 abbrev Stepped : Table → History → Bool → Type 0

@@ -1,5 +1,5 @@
 -- Trails that get one record more.
-use Rattle.std.proofs.Common.{◌≡◌, ℕ, zero, suc, ◌+◌, ◌<◌, ◌≤◌, Bool, true, false, cond, eqb, ◌⊎◌, List, [], ◌∷◌, ◌++◌, map, length, get_or, Some, sym, refl, ap, ◌∙◌, subst, inl, inr, ⊎_elim, arith}
+use Rattle.std.proofs.Common.{◌≡◌, ℕ, zero, suc, ◌+◌, ◌<◌, ◌≤◌, Bool, true, false, cond, eqb, ◌⊎◌, List, [], ◌∷◌, ◌++◌, map, length, get_or, Some, option_map, sym, refl, ap, ◌∙◌, subst, inl, inr, ⊎_elim, arith}
 use Rattle.std.proofs.lemmas.List.{length-append, length-map, get_or_append_left, get_or-map}
 use Rattle.std.proofs.Math.Seq.{get_or-append_seam}
 use Rattle.std.proofs.lemmas.Bool.{cond-true, cond-false, eqb-true, eqb-false, ne_eqb, or_parts, cases_lt}
@@ -7,7 +7,7 @@ use Rattle.std.proofs.lemmas.List.Folds.{Any-from_list_any}
 use Rattle.std.proofs.lemmas.Map.Keys.{IsDistinct-from_apart}
 use Rattle.std.proofs.lemmas.Map.Steps.{length-le_from_distinct_below}
 use Rattle.session.specs.declared.trail.TrailRecord.{TrailRecord}
-use Rattle.session.specs.Trails.{active, later, find, no_record, Below, Apart, FirstOlder, SecondOlder}
+use Rattle.session.specs.Trails.{active, find, no_record, Below, Apart, FirstOlder, SecondOlder}
 use Rattle.session.proofs.Finding.{Older}
 
 -- a record of a trail on which an item is not active is of another item
@@ -24,11 +24,11 @@ find-more (r ∷ t) x i off =
     go (eqb r.item i) (eqb x.item i) refl refl o.0 (find-more t x i o.1)
   where
     go : (a b : Bool) → eqb r.item i ≡ a → eqb x.item i ≡ b → eqb r.item x.item ≡ false → find (t ++ x ∷ []) i ≡ cond (eqb x.item i) (Some (length t)) (find t i) →
-        cond a (Some 0) (later (find (t ++ x ∷ []) i)) ≡ cond b (Some (suc (length t))) (cond a (Some 0) (later (find t i)))
+        cond a (Some 0) (option_map (λ k. k + 1) (find (t ++ x ∷ []) i)) ≡ cond b (Some (suc (length t))) (cond a (Some 0) (option_map (λ k. k + 1) (find t i)))
     go true true p q o h = absurd (eqb-false r.item x.item o (eqb-true r.item i p ∙ sym (eqb-true x.item i q)))
     go true false p q o h = refl
-    go false true p q o h = let z : length t + 1 ≡ suc (length t) = omega arith in ap later (h ∙ cond-true (eqb x.item i) _ _ q) ∙ ap (λ n. Some n) z
-    go false false p q o h = ap later (h ∙ cond-false (eqb x.item i) _ _ q)
+    go false true p q o h = let z : length t + 1 ≡ suc (length t) = omega arith in ap (option_map (λ k. k + 1)) (h ∙ cond-true (eqb x.item i) _ _ q) ∙ ap (λ n. Some n) z
+    go false false p q o h = ap (option_map (λ k. k + 1)) (h ∙ cond-false (eqb x.item i) _ _ q)
 
 module _ (n : ℕ) (t : List TrailRecord) (x : TrailRecord) (low : x.item < n) (off : active t x.item ≡ false) where
   abbrev after : List TrailRecord

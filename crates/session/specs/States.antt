@@ -1,5 +1,6 @@
 -- What a session holds, and what the calls make of it.
-use Rattle.std.specs.Prelude.{ℕ, zero, suc, ◌+◌, Bool, true, false, cond, not, ◌&&◌, List, [], ◌∷◌, ◌++◌, drop, Some, None, Ok, Err, Option, Result, ◌==◌, nat_le, nat_lt, slice_index_or}
+use Rattle.std.specs.Prelude.{ℕ, zero, suc, ◌+◌, Bool, true, false, if◌then◌else◌, not, ◌&&◌, List, [], ◌∷◌, ◌++◌, drop, Some, None, Ok, Err, Option, Result, ◌==◌, nat_le, nat_lt, slice_index_or}
+use Rattle.std.specs.List.{list_all}
 use Rattle.rulebook.specs.declared.entries.WatchEntry.{WatchEntry}
 use Rattle.rulebook.specs.declared.entries.RowEntry.{RowEntry}
 use Rattle.rulebook.specs.Tables.{Table, seek, max_items}
@@ -9,7 +10,7 @@ use Rattle.session.specs.declared.calls.SessionFault.TheVariants as fault
 use Rattle.session.specs.declared.calls.Outcome.{Outcome}
 use Rattle.session.specs.declared.calls.Outcome.TheVariants.{Settled, Pending}
 use Rattle.session.specs.declared.calls.Reason.{Reason}
-use Rattle.session.specs.Trails.{active, find, grants, cause_of, no_record}
+use Rattle.session.specs.Trails.{request_record, conclusion_record, active, find, grants, cause_of, no_record}
 
 -- the item count, the trail, and the worked place: a trail number and a row
 pub record State : Type 0 where
@@ -27,7 +28,8 @@ with_position s k r = record { items = s.items; trail = s.trail; position = k; r
 -- Opening: the check, and a new session; a refused case has no items
 
 abbrev pub check_answer : ℕ → ℕ → ℕ → Result (Unit {0}) SessionFault
-check_answer n places marks = cond (nat_le n places && nat_le n marks) (cond (nat_le n max_items) (Ok tt) (Err fault.Item)) (Err fault.Memory)
+check_answer n places marks =
+    if nat_le n places && nat_le n marks then (if nat_le n max_items then Ok tt else Err fault.Item) else Err fault.Memory
 
 abbrev pub items_after : ℕ → Result (Unit {0}) SessionFault → ℕ
 items_after n (Ok u) = n
@@ -42,30 +44,29 @@ open_session n places marks = empty (items_after n (check_answer n places marks)
 -- Request: those not yet active join the trail, in list order, without causes
 
 abbrev pub request_one : State → ℕ → State
-request_one s i = cond (active s.trail i) s (with_trail s (s.trail ++ record { item = i; first = None; second = None } ∷ []))
+request_one s i = if active s.trail i then s else with_trail s (s.trail ++ request_record i ∷ [])
 
 abbrev pub request_all : State → List ℕ → State
 request_all s [] = s
 request_all s (i ∷ is) = request_all (request_one s i) is
 
 abbrev pub all_below : ℕ → List ℕ → Bool
-all_below n [] = true
-all_below n (i ∷ is) = nat_lt i n && all_below n is
+all_below n is = list_all (λ i. nat_lt i n) is
 
 abbrev pub request_answer : State → List ℕ → Result (Unit {0}) SessionFault
-request_answer s is = cond (all_below s.items is) (Ok tt) (Err fault.Item)
+request_answer s is = if all_below s.items is then Ok tt else Err fault.Item
 
 abbrev pub request_leaves : State → List ℕ → State
-request_leaves s is = cond (all_below s.items is) (request_all s is) s
+request_leaves s is = if all_below s.items is then request_all s is else s
 
 -- Settle
 
 -- the conclusion of an entry joins the trail if its premises are active and it is not
 abbrev pub conclude : State → WatchEntry → State
 conclude s e =
-    cond (grants s.trail e.partner && not (active s.trail e.conclusion))
-    (with_trail s (s.trail ++ record { item = e.conclusion; first = Some s.position; second = cause_of s.trail e.partner } ∷ []))
-    s
+    if grants s.trail e.partner && not (active s.trail e.conclusion)
+    then with_trail s (s.trail ++ conclusion_record e.conclusion s.position (cause_of s.trail e.partner) ∷ [])
+    else s
 
 -- an entry of the worked item is taken
 abbrev pub take_entry : State → RowEntry → State
@@ -121,26 +122,26 @@ settle_run s t zero = halt (next s t)
 settle_run s t (suc b) = step_once (λ u. settle_run u t b) (next s t)
 
 abbrev pub outcome_of : Run → Outcome
-outcome_of r = cond r.pending Pending (Settled r.steps)
+outcome_of r = if r.pending then Pending else Settled r.steps
 
 -- a rulebook of another item count is refused
 abbrev pub fits : State → Table → Bool
 fits s t = t.items == s.items
 
 abbrev pub settle_answer : State → Table → ℕ → Result Outcome SessionFault
-settle_answer s t b = cond (fits s t) (Ok (outcome_of (settle_run s t b))) (Err fault.Item)
+settle_answer s t b = if fits s t then Ok (outcome_of (settle_run s t b)) else Err fault.Item
 
 abbrev pub settle_leaves : State → Table → ℕ → State
-settle_leaves s t b = cond (fits s t) (settle_run s t b).state s
+settle_leaves s t b = if fits s t then (settle_run s t b).state else s
 
 -- Questions
 
 abbrev pub active_answer : State → ℕ → Result Bool SessionFault
-active_answer s i = cond (nat_lt i s.items) (Ok (active s.trail i)) (Err fault.Item)
+active_answer s i = if nat_lt i s.items then Ok (active s.trail i) else Err fault.Item
 
 abbrev pub reason_at : List TrailRecord → Option ℕ → Result Reason SessionFault
 reason_at t None = Err fault.Inactive
 reason_at t (Some k) = Ok (record { first = (slice_index_or t k no_record).first; second = (slice_index_or t k no_record).second })
 
 abbrev pub reason_answer : State → ℕ → Result Reason SessionFault
-reason_answer s i = cond (nat_lt i s.items) (reason_at s.trail (find s.trail i)) (Err fault.Item)
+reason_answer s i = if nat_lt i s.items then reason_at s.trail (find s.trail i) else Err fault.Item

@@ -1,20 +1,24 @@
 -- Trails: the active items in the order in which they became so.
-use Rattle.std.specs.Prelude.{◌≡◌, ℕ, ◌+◌, ◌<◌, Bool, true, false, cond, ◌||◌, List, [], ◌∷◌, length, Some, None, Option, ◌==◌, ◌≢◌, slice_index_or}
+use Rattle.std.specs.Prelude.{◌≡◌, ℕ, ◌+◌, ◌<◌, Bool, true, if◌then◌else◌, List, [], ◌∷◌, length, Some, None, Option, option_map, ◌==◌, ◌≢◌, slice_index_or}
+use Rattle.std.specs.List.{list_any}
 use Rattle.session.specs.declared.trail.TrailRecord.{TrailRecord}
+
+-- the record of an item that was requested, and of one that an entry concluded: by trail number, the item whose entry it is
+-- and the partner in it, if there is one
+abbrev pub request_record : ℕ → TrailRecord
+request_record i = record { item = i; first = None; second = None }
+
+abbrev pub conclusion_record : ℕ → ℕ → Option ℕ → TrailRecord
+conclusion_record i first second = record { item = i; first = Some first; second = second }
 
 -- an item is active if it is on the trail
 abbrev pub active : List TrailRecord → ℕ → Bool
-active [] i = false
-active (r ∷ t) i = r.item == i || active t i
+active t i = list_any (λ r. r.item == i) t
 
 -- the trail number of an item
-abbrev pub later : Option ℕ → Option ℕ
-later None = None
-later (Some k) = Some (k + 1)
-
 abbrev pub find : List TrailRecord → ℕ → Option ℕ
 find [] i = None
-find (r ∷ t) i = cond (r.item == i) (Some 0) (later (find t i))
+find (r ∷ t) i = if r.item == i then Some 0 else option_map (λ k. k + 1) (find t i)
 
 -- a partner, if there is one, is active; and its trail number
 abbrev pub grants : List TrailRecord → Option ℕ → Bool
@@ -28,7 +32,7 @@ cause_of t (Some i) = find t i
 -- What every trail keeps, with n items and marks for them.
 
 abbrev pub no_record : TrailRecord
-no_record = record { item = 0; first = None; second = None }
+no_record = request_record 0
 
 -- its items are below n and differ
 abbrev pub Below : ℕ → List TrailRecord → Type 0

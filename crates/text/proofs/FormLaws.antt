@@ -113,7 +113,7 @@ short s t b = record {
   longer = λ j a l _. omega arith;
 }
 
--- the parts as the state tells them are those of the form
+-- the pieces that the state speaks of are those of the form
 parted : (n m : List ℕ) (first_len k : ℕ) → length n ≡ first_len → (piece_before first_len (n ++ m) ≡ whole n) × (piece_from (first_len + k) (n ++ m) ≡ record { place = length n + k; text = drop k m })
 parted n m first_len k e = (
   ap whole (take_at n m first_len e),
@@ -143,11 +143,11 @@ at-end (Last Weak first_len len) t b =
     let p = parted n (question ∷ slash ∷ b.1) first_len 2 b.3.3 in
     (weak n b.1, o.1, e, ap (λ x. weak (piece_before first_len x) (piece_from (first_len + 2) x)) e ∙ (λ i. weak (p.0 i) (p.1 i)))
 
-pub unplaced-placed : (f : Form (List ℕ)) → without_places (with_places f) ≡ f
-unplaced-placed (plain g) = refl
-unplaced-placed (switch n) = refl
-unplaced-placed (strong n g) = refl
-unplaced-placed (weak n g) = refl
+pub without-with_places : (f : Form (List ℕ)) → without_places (with_places f) ≡ f
+without-with_places (plain g) = refl
+without-with_places (switch n) = refl
+without-with_places (strong n g) = refl
+without-with_places (weak n g) = refl
 
 pub form-law : (t : List ℕ) (r : Result (Form Piece) StringFault) → r ≡ read_form t → FormLaw t r
-form-law = reads step finish NoForm Start LawfulForm spell with_places Before refl before_more begun at-end accepts without_places unplaced-placed
+form-law = reads step finish NoForm Start LawfulForm spell with_places Before refl before_more begun at-end accepts without_places without-with_places

@@ -19,7 +19,7 @@ abbrev pub Kept : (State → Type 0) → Option State → Type 0
 Kept P None = Unit {0}
 Kept P (Some s) = P s
 
--- the parts that a state tells of lie in the bytes read
+-- the pieces that a state speaks of lie in the bytes read
 room-kept : (s : State) (c at : ℕ) → Room s at → Kept (λ s'. Room s' (at + 1)) (step s c)
 room-kept Start c at r = cond_both (initial c) _ _ (Kept (λ s'. Room s' (at + 1))) (λ _. omega arith) (λ _. tt)
 room-kept (First len dep) c at r =

@@ -24,8 +24,8 @@ module _ {S A : Type 0} (step : S → ℕ → Option S) (finish : S → List ℕ
 
 -- what an answer has to be
 abbrev pub Verdict : {M A : Type 0} → (M → Type 0) → (M → List ℕ) → (M → A) → (ℕ → StringFault) → List ℕ → Result A StringFault → Type 0
-Verdict {M} Lawful spell told fault t (Ok a) = (m : M) × Lawful m × (t ≡ spell m) × (a ≡ told m)
-Verdict Lawful spell told fault t (Err e) = (k : ℕ) × (e ≡ fault k) × Longest Lawful spell t k
+Verdict {M} Lawful spell answer fault t (Ok a) = (m : M) × Lawful m × (t ≡ spell m) × (a ≡ answer m)
+Verdict Lawful spell answer fault t (Err e) = (k : ℕ) × (e ≡ fault k) × Longest Lawful spell t k
 
 -- a longer prefix holds the byte after p: something is left, which the library's `take-append-add` does not say
 take_past : (p : List ℕ) (c : ℕ) (bs : List ℕ) (j : ℕ) → length p < j → (m : List ℕ) × (take j (p ++ c ∷ bs) ≡ p ++ c ∷ m)
@@ -37,17 +37,17 @@ take_past (x ∷ p) c bs (suc j) l = let h = take_past p c bs j (omega arith) in
 -- A reader reads by a grammar, if
 module _ {S M A : Type 0}
     (step : S → ℕ → Option S) (finish : S → List ℕ → Result A StringFault) (fault : ℕ → StringFault) (start : S)
-    (Lawful : M → Type 0) (spell : M → List ℕ) (told : M → A)
+    (Lawful : M → Type 0) (spell : M → List ℕ) (answer : M → A)
     -- a state tells something of the bytes that led to it,
     (Before : S → List ℕ → Type 0)
     (before-none : Before start [])
     (before_more : (s s' : S) (p : List ℕ) (c : ℕ) → Before s p → step s c ≡ Some s' → Before s' (p ++ c ∷ []))
     -- from which they begin some lawful string, and the answer at the end follows,
     (begun : (s : S) (p : List ℕ) → Before s p → Begins Lawful spell p)
-    (at-end : (s : S) (t : List ℕ) → Before s t → Verdict Lawful spell told fault t (finish s t))
-    -- each lawful string is accepted, and what is told of it tells which one it is
-    (accepts : (m : M) → Lawful m → read_from step finish fault (spell m) start 0 (spell m) ≡ Ok (told m))
-    (untold : A → M) (untold-told : (m : M) → untold (told m) ≡ m)
+    (at-end : (s : S) (t : List ℕ) → Before s t → Verdict Lawful spell answer fault t (finish s t))
+    -- each lawful string is accepted, and the answer tells which one it is
+    (accepts : (m : M) → Lawful m → read_from step finish fault (spell m) start 0 (spell m) ≡ Ok (answer m))
+    (meaning : A → M) (meaning-answer : (m : M) → meaning (answer m) ≡ m)
   where
     -- p leads to s, whatever follows
     abbrev Reach : S → List ℕ → Type 0
@@ -66,7 +66,7 @@ module _ {S M A : Type 0}
         let q = take_past p c bs j l in
         let w : List ℕ = spell b.0 in
         let is : w ≡ p ++ c ∷ (q.0 ++ b.1) = sym b.3 ∙ ap (λ x. x ++ b.1) q.1 ∙ append_assoc p (c ∷ q.0) b.1 in
-        let good : read_from step finish fault w start 0 w ≡ Ok (told b.0) = accepts b.0 b.2 in
+        let good : read_from step finish fault w start 0 w ≡ Ok (answer b.0) = accepts b.0 b.2 in
         let bad : read_from step finish fault w start 0 w ≡ Err (fault (length p)) =
         ap (read_from step finish fault w start 0) is
         ∙ r w (c ∷ (q.0 ++ b.1))
@@ -82,34 +82,34 @@ module _ {S M A : Type 0}
       longer = λ j a l g. dead s p c bs j r e a g;
     })
 
-    judged : (t : List ℕ) (s : S) (p bs : List ℕ) → Before s p → Reach s p → p ++ bs ≡ t → Verdict Lawful spell told fault t (read_from step finish fault t s (length p) bs)
+    judged : (t : List ℕ) (s : S) (p bs : List ℕ) → Before s p → Reach s p → p ++ bs ≡ t → Verdict Lawful spell answer fault t (read_from step finish fault t s (length p) bs)
     judged t s p [] b r h = at-end s t (subst (Before s) (sym (append-nil p) ∙ h) b)
     judged t s p (c ∷ bs) b r h =
-        subst (Verdict Lawful spell told fault t) (sym (read-onward step finish fault t s (length p) c bs))
+        subst (Verdict Lawful spell answer fault t) (sym (read-onward step finish fault t s (length p) c bs))
         (go (step s c) refl
-        (λ s' e. subst (λ k. Verdict Lawful spell told fault t (read_from step finish fault t s' k bs)) (length_push p c)
+        (λ s' e. subst (λ k. Verdict Lawful spell answer fault t (read_from step finish fault t s' k bs)) (length_push p c)
         (judged t s' (p ++ c ∷ []) bs (before_more s s' p c b e) (reach-more s s' p c r e) (append_assoc p (c ∷ []) bs ∙ h))))
       where
-        go : (o : Option S) → step s c ≡ o → ((s' : S) → step s c ≡ Some s' → Verdict Lawful spell told fault t (read_from step finish fault t s' (length p + 1) bs)) → Verdict Lawful spell told fault t (onward step finish fault t o (length p) bs)
+        go : (o : Option S) → step s c ≡ o → ((s' : S) → step s c ≡ Some s' → Verdict Lawful spell answer fault t (read_from step finish fault t s' (length p + 1) bs)) → Verdict Lawful spell answer fault t (onward step finish fault t o (length p) bs)
         go None e f = (length p, refl, stuck t s p c bs b r h e)
         go (Some s') e f = f s' e
 
-    complete : (t : List ℕ) (m : M) → Lawful m → t ≡ spell m → read_from step finish fault t start 0 t ≡ Ok (told m)
-    complete t m l e = subst (λ x. read_from step finish fault x start 0 x ≡ Ok (told m)) (sym e) (accepts m l)
+    complete : (t : List ℕ) (m : M) → Lawful m → t ≡ spell m → read_from step finish fault t start 0 t ≡ Ok (answer m)
+    complete t m l e = subst (λ x. read_from step finish fault x start 0 x ≡ Ok (answer m)) (sym e) (accepts m l)
 
     once : (t : List ℕ) (m n : M) → Lawful m → Lawful n → t ≡ spell m → t ≡ spell n → m ≡ n
     once t m n l k p q =
         let a = complete t m l p in
         let b = complete t n k q in
-        let same : told m ≡ told n = cc in
-        sym (untold-told m) ∙ ap untold same ∙ untold-told n
+        let same : answer m ≡ answer n = cc in
+        sym (meaning-answer m) ∙ ap meaning same ∙ meaning-answer n
 
-    accepted : (t : List ℕ) (r : Result A StringFault) → Verdict Lawful spell told fault t r → (a : A) → r ≡ Ok a → (m : M) × Lawful m × (t ≡ spell m) × (a ≡ told m)
-    accepted t r v a e = subst (Verdict Lawful spell told fault t) e v
+    accepted : (t : List ℕ) (r : Result A StringFault) → Verdict Lawful spell answer fault t r → (a : A) → r ≡ Ok a → (m : M) × Lawful m × (t ≡ spell m) × (a ≡ answer m)
+    accepted t r v a e = subst (Verdict Lawful spell answer fault t) e v
 
-    refused : (t : List ℕ) (r : Result A StringFault) → r ≡ read_from step finish fault t start 0 t → Verdict Lawful spell told fault t r → (e : StringFault) → r ≡ Err e → (k : ℕ) × (e ≡ fault k) × Longest Lawful spell t k × ((m : M) → Lawful m → t ≡ spell m → ⊥)
+    refused : (t : List ℕ) (r : Result A StringFault) → r ≡ read_from step finish fault t start 0 t → Verdict Lawful spell answer fault t r → (e : StringFault) → r ≡ Err e → (k : ℕ) × (e ≡ fault k) × Longest Lawful spell t k × ((m : M) → Lawful m → t ≡ spell m → ⊥)
     refused t r is v e h =
-        let w : Verdict Lawful spell told fault t (Err e) = subst (Verdict Lawful spell told fault t) h v in (
+        let w : Verdict Lawful spell answer fault t (Err e) = subst (Verdict Lawful spell answer fault t) h v in (
           w.0,
           w.1,
           w.2,
@@ -119,9 +119,9 @@ module _ {S M A : Type 0}
               omega arith,
         )
 
-    pub reads : (t : List ℕ) (r : Result A StringFault) → r ≡ read_from step finish fault t start 0 t → Reads Lawful spell told fault t r
+    pub reads : (t : List ℕ) (r : Result A StringFault) → r ≡ read_from step finish fault t start 0 t → Reads Lawful spell answer fault t r
     reads t r is =
-        let v : Verdict Lawful spell told fault t r = subst (Verdict Lawful spell told fault t) (sym is) (judged t start [] t before-none (λ w rest. refl) refl) in
+        let v : Verdict Lawful spell answer fault t r = subst (Verdict Lawful spell answer fault t) (sym is) (judged t start [] t before-none (λ w rest. refl) refl) in
         record {
           sound = accepted t r v;
           complete = λ m l e. is ∙ complete t m l e;

@@ -6,17 +6,20 @@ use Rattle.text.specs.Names.{Name}
 use Rattle.text.specs.Forms.{Form, LawfulForm, spell, Piece, whole, with_places}
 use Rattle.text.specs.Prefixes.{Longest}
 
--- r is what reading t answers, where a lawful meaning m is answered as `told m`,
+-- r is what reading t answers, where a lawful meaning m is answered as `answer m`,
 -- and a refusal at a place as `fault` of that place
-pub record Reads {M A : Type 0} (Lawful : M → Type 0) (spell : M → List ℕ) (told : M → A) (fault : ℕ → StringFault) (t : List ℕ) (r : Result A StringFault) : Type 0 where
-  -- what is accepted is the spelling of a lawful meaning, and is told as that one
-  pub sound : (a : A) → r ≡ Ok a → (m : M) × Lawful m × (t ≡ spell m) × (a ≡ told m)
+pub record Reads {M A : Type 0}
+    (Lawful : M → Type 0) (spell : M → List ℕ) (answer : M → A) (fault : ℕ → StringFault)
+    (t : List ℕ) (r : Result A StringFault) : Type 0 where
+  -- what is accepted is the spelling of a lawful meaning, and is answered as that one
+  pub sound : (a : A) → r ≡ Ok a → (m : M) × Lawful m × (t ≡ spell m) × (a ≡ answer m)
   -- the spelling of a lawful meaning is accepted
-  pub complete : (m : M) → Lawful m → t ≡ spell m → r ≡ Ok (told m)
+  pub complete : (m : M) → Lawful m → t ≡ spell m → r ≡ Ok (answer m)
   -- it has one reading
   pub once : (m n : M) → Lawful m → Lawful n → t ≡ spell m → t ≡ spell n → m ≡ n
   -- what is refused is no such spelling, and the place is the length of its longest prefix that begins one
-  pub refused : (e : StringFault) → r ≡ Err e → (k : ℕ) × (e ≡ fault k) × Longest Lawful spell t k × ((m : M) → Lawful m → t ≢ spell m)
+  pub refused : (e : StringFault) → r ≡ Err e →
+      (k : ℕ) × (e ≡ fault k) × Longest Lawful spell t k × ((m : M) → Lawful m → t ≢ spell m)
 
 -- a name spells itself
 abbrev pub NameLaw : List ℕ → Result Piece StringFault → Type 0

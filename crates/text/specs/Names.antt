@@ -1,5 +1,5 @@
 -- Names of packages, dependencies and features.
-use Rattle.std.specs.Prelude.{◌≡◌, ℕ, ◌≤◌, Bool, true, ◌&&◌, ◌||◌, List, [], ◌∷◌, length, ◌==◌, nat_le}
+use Rattle.std.specs.Prelude.{ℕ, ◌≤◌, Bool, IsTrue, ◌&&◌, ◌||◌, List, [], ◌∷◌, length, ◌==◌, nat_le}
 use Rattle.std.specs.List.{AllByRecursion}
 
 -- c is one of the characters from lo to hi
@@ -16,7 +16,7 @@ inner c = initial c || (c == 45 || (c == 43 || c == 46))
 
 -- each byte may stand inside a name
 abbrev pub Inner : List ℕ → Type 0
-Inner bs = AllByRecursion (λ c. inner c ≡ true) bs
+Inner bs = AllByRecursion (λ c. IsTrue (inner c)) bs
 
 -- the most bytes that a name has
 abbrev pub max_name_bytes : ℕ
@@ -25,4 +25,4 @@ max_name_bytes = 64
 -- a name has 1 to 64 bytes, the first one initial, the later ones inner
 abbrev pub Name : List ℕ → Type 0
 Name [] = ⊥
-Name (b ∷ bs) = (initial b ≡ true) × Inner bs × (length (b ∷ bs) ≤ max_name_bytes)
+Name (b ∷ bs) = IsTrue (initial b) × Inner bs × (length (b ∷ bs) ≤ max_name_bytes)

@@ -1,5 +1,5 @@
 -- The two readers: their states, steps and ends.
-use Rattle.std.specs.Prelude.{◌≡◌, ℕ, ◌+◌, ◌≤◌, Bool, true, cond, ◌&&◌, ◌||◌, List, length, take, drop, Some, None, Ok, Err, Option, Result, ◌==◌, nat_lt}
+use Rattle.std.specs.Prelude.{◌≡◌, ℕ, ◌+◌, ◌≤◌, Bool, true, if◌then◌else◌, ◌&&◌, ◌||◌, List, length, take, drop, Some, None, Ok, Err, Option, Result, ◌==◌, nat_lt}
 use Rattle.text.specs.declared.faults.StringFault.{StringFault}
 use Rattle.text.specs.declared.faults.StringFault.TheVariants.{NoName, NoForm}
 use Rattle.text.specs.declared.strings.Separator.{Separator}
@@ -12,14 +12,14 @@ use Rattle.text.specs.Forms.{Form, plain, switch, strong, weak, Piece, whole}
 
 -- a name may have c at this place
 abbrev pub fits_name : ℕ → ℕ → Bool
-fits_name at c = cond (at == 0) (initial c) (inner c && nat_lt at max_name_bytes)
+fits_name at c = if at == 0 then initial c else (inner c && nat_lt at max_name_bytes)
 
 -- the reader of names counts the bytes read
 abbrev pub name_step : ℕ → ℕ → Option ℕ
-name_step at c = cond (fits_name at c) (Some (at + 1)) None
+name_step at c = if fits_name at c then Some (at + 1) else None
 
 abbrev pub name_finish : ℕ → List ℕ → Result Piece StringFault
-name_finish at t = cond (at == 0) (Err (NoName 0)) (Ok (whole t))
+name_finish at t = if at == 0 then Err (NoName 0) else Ok (whole t)
 
 abbrev pub read_name : List ℕ → Result Piece StringFault
 read_name t = read_from name_step name_finish NoName t 0 0 t
@@ -40,15 +40,17 @@ spells_dep dep len c = dep && ((len == 0 && c == 100) || ((len == 1 && c == 101)
 
 -- the state after the byte c, or none where no lawful string goes on so
 abbrev pub step : State → ℕ → Option State
-step Start c = cond (initial c) (Some (First 1 (spells_dep true 0 c))) None
+step Start c = if initial c then Some (First 1 (spells_dep true 0 c)) else None
 step (First len dep) c =
-    cond (inner c && nat_lt len max_name_bytes) (Some (First (len + 1) (spells_dep dep len c)))
-    (cond (c == slash) (Some (BeforeLast Strong len))
-    (cond (c == question) (Some (AfterQuestion len))
-    (cond (c == colon && (dep && len == 3)) (Some (BeforeLast Switch len)) None)))
-step (AfterQuestion first_len) c = cond (c == slash) (Some (BeforeLast Weak first_len)) None
-step (BeforeLast separator first_len) c = cond (initial c) (Some (Last separator first_len 1)) None
-step (Last separator first_len len) c = cond (inner c && nat_lt len max_name_bytes) (Some (Last separator first_len (len + 1))) None
+    if inner c && nat_lt len max_name_bytes then Some (First (len + 1) (spells_dep dep len c))
+    else if c == slash then Some (BeforeLast Strong len)
+    else if c == question then Some (AfterQuestion len)
+    else if c == colon && (dep && len == 3) then Some (BeforeLast Switch len)
+    else None
+step (AfterQuestion first_len) c = if c == slash then Some (BeforeLast Weak first_len) else None
+step (BeforeLast separator first_len) c = if initial c then Some (Last separator first_len 1) else None
+step (Last separator first_len len) c =
+    if inner c && nat_lt len max_name_bytes then Some (Last separator first_len (len + 1)) else None
 
 -- the piece of t from a place on, and the one before a place
 abbrev pub piece_from : ℕ → List ℕ → Piece
@@ -64,7 +66,8 @@ finish (First len dep) t = Ok (plain (whole t))
 finish (AfterQuestion first_len) t = Err (NoForm (length t))
 finish (BeforeLast separator first_len) t = Err (NoForm (length t))
 finish (Last Switch first_len len) t = Ok (switch (piece_from 4 t))
-finish (Last Strong first_len len) t = Ok (strong (piece_before first_len t) (piece_from (first_len + 1) t))
+finish (Last Strong first_len len) t =
+    Ok (strong (piece_before first_len t) (piece_from (first_len + 1) t))
 finish (Last Weak first_len len) t = Ok (weak (piece_before first_len t) (piece_from (first_len + 2) t))
 
 abbrev pub read_form : List ℕ → Result (Form Piece) StringFault
@@ -82,7 +85,7 @@ Letters Switch first_len = first_len ≡ 3
 Letters Strong first_len = Unit {0}
 Letters Weak first_len = Unit {0}
 
--- after `at` bytes the parts that a state tells of lie in them
+-- after `at` bytes the pieces that a state speaks of lie in them
 abbrev pub Room : State → ℕ → Type 0
 Room Start at = Unit {0}
 Room (First len dep) at = len ≤ at

@@ -1,4 +1,4 @@
-//! Names and feature strings: one grammar, one reading each.
+//! Names and feature strings: a grammar and a reader for each. All places and lengths are counted in bytes.
 
 #![tactic(auto)]
 
@@ -18,12 +18,14 @@ macro_rules! inner {
 
 mod examples;
 mod faults;
+mod limits;
 mod names;
 mod pieces;
 mod strings;
 
 pub use examples::worked_examples;
 pub use faults::StringFault;
-pub use names::{MAX_NAME_BYTES, read_name};
+pub use limits::MAX_NAME_BYTES;
+pub use names::read_name;
 pub use pieces::{FeatureString, Piece};
 pub use strings::read_feature_string;

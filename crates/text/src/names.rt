@@ -5,10 +5,8 @@ ghost use Rattle.text.specs.Readers.{fits_name, read_name};
 ghost use Rattle.text.specs.Views.{map_ok, piece};
 
 use crate::faults::StringFault;
+use crate::limits::MAX_NAME_BYTES;
 use crate::pieces::Piece;
-
-// The most bytes that a name has.
-pub const MAX_NAME_BYTES: usize = 64;
 
 // Whether a name may have `c` at this place.
 fn fits_name(at: usize, c: char) -> bool
@@ -17,7 +15,8 @@ fn fits_name(at: usize, c: char) -> bool
     matches!((at, c), (0, initial!()) | (1..MAX_NAME_BYTES, inner!()))
 }
 
-// Reads a string as a name. The answer is the whole string, as a part of itself.
+/// Reads a string as a name: 1 to 64 letters, digits or `_`, and after the first byte also `-`, `+` and `.`. The answer is
+/// the whole string, at place 0. Any other string is refused, with the length of its longest prefix that begins a name.
 pub fn read_name<'a>(text: &'a [u8]) -> Result<Piece<'a>, StringFault>
     ensures value { map_ok piece result ≡ read_name text.now }
     ensures law { NameLaw text.now (map_ok piece result) }

@@ -5,7 +5,7 @@ ghost use Rattle.text.specs.Readers.{spells_dep, step, piece_from, piece_before,
 ghost use Rattle.text.specs.Views.{map_ok, piece, form};
 
 use crate::faults::StringFault;
-use crate::names::MAX_NAME_BYTES;
+use crate::limits::MAX_NAME_BYTES;
 use crate::pieces::{FeatureString, Piece};
 
 // What stands before the last name: `dep:`, or the first name with `/` or `?/`.
@@ -25,7 +25,7 @@ enum State {
     First(usize, bool),
     // after the first name, which has so many bytes, and `?`
     AfterQuestion(usize),
-    // before the last name: the link, and how many bytes the first name has, or `dep`
+    // before the last name: the separator, and how many bytes the first name has, or `dep`
     BeforeLast(Separator, usize),
     // in the last name: the same, and how many bytes of the last name are read
     Last(Separator, usize, usize),
@@ -70,7 +70,7 @@ fn step(state: State, c: char) -> Option<State>
     }
 }
 
-// The part of a string before a place.
+// The piece of a string before a place.
 fn piece_before<'a>(text: &'a [u8], at: usize) -> Piece<'a>
     requires { at ≤ length text.now }
     ensures { piece result ≡ piece_before at text.now }
@@ -81,7 +81,7 @@ fn piece_before<'a>(text: &'a [u8], at: usize) -> Piece<'a>
     }
 }
 
-// The part of a string from a place on.
+// The piece of a string from a place on.
 fn piece_from<'a>(text: &'a [u8], at: usize) -> Piece<'a>
     requires { at ≤ length text.now }
     ensures { piece result ≡ piece_from at text.now }
@@ -140,7 +140,8 @@ fn finish<'a>(state: State, text: &'a [u8]) -> Result<FeatureString<'a>, StringF
     }
 }
 
-// Reads a feature string: its form and its names, or the place where no lawful string goes on so.
+/// Reads a feature string: its form, and its names with their places in it. A string of no form is refused, with the
+/// length of its longest prefix that begins some feature string.
 pub fn read_feature_string<'a>(text: &'a [u8]) -> Result<FeatureString<'a>, StringFault>
     ensures value { map_ok form result ≡ read_form text.now }
     ensures law { FormLaw text.now (map_ok form result) }

@@ -4,7 +4,7 @@ use Rattle.std.proofs.lemmas.Result.{err_from_is_err_and}
 use Rattle.std.proofs.lemmas.Bool.{cond-false, le-ltb}
 use Rattle.graph.specs.declared.faults.FileFault.{FileFault}
 use Rattle.graph.specs.declared.faults.InRecord.{InRecord}
-use Rattle.graph.specs.Reading.{Cursor, ReadRecord, begin, record_at, scan}
+use Rattle.graph.specs.Reading.{Cursor, ReadRecord, first_cursor, record_at, scan}
 use Rattle.graph.specs.Limits.{max_bytes}
 use Rattle.graph.specs.Gathered.{Gathered, gathered, gathered_in, gathered_by}
 use Rattle.graph.specs.Views.{cursor_view, read_record_view, keys, Fits}
@@ -13,7 +13,7 @@ use Rattle.graph.proofs.Gathers.{loop-stops, loop-goes, loop-ends, next-within, 
 use Rattle.graph.proofs.reading.first_reading.Goals as goal
 
 -- the size is right, so the records decide
-sized : (file : List ℕ) → length file ≤ max_bytes → gathered begin (scan begin file) ≡ gathered_in file
+sized : (file : List ℕ) → length file ≤ max_bytes → gathered first_cursor (scan first_cursor file) ≡ gathered_in file
 sized file l = sym (cond-false _ _ _ (le-ltb max_bytes (length file) l))
 
 -- what is read at the place where the reading stands, of the bytes that are left

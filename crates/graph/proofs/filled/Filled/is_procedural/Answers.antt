@@ -1,7 +1,7 @@
-use Rattle.std.proofs.Common.{sym, ◌∙◌, arith}
+use Rattle.std.proofs.Common.{sym, ap, ◌∙◌, arith}
 use Rattle.std.proofs.lemmas.Bool.{le-ltb}
 use Rattle.graph.specs.RowLists.{its}
-use Rattle.graph.proofs.Befores.{proc-beyond}
+use Rattle.graph.proofs.Befores.{package-beyond}
 use Rattle.graph.proofs.FilledTells.{packages-told, mark-told}
 use Rattle.graph.proofs.filled.Filled.is_procedural.Goals as goal
 
@@ -13,4 +13,4 @@ returns-then-p-self c =
 pub returns-else-p-self : goal.returns-else-p-self
 returns-else-p-self c =
     let x = c.args.self.now in
-    le-ltb c.args.p x.directory.now.counts.packages c.if-p-self.false ∙ sym (proc-beyond (its x) c.args.p (omega (arith, packages-told x, c.if-p-self.false)))
+    le-ltb c.args.p x.directory.now.counts.packages c.if-p-self.false ∙ sym (ap (λ a. a.proc) (package-beyond (its x) c.args.p (omega (arith, packages-told x, c.if-p-self.false))))
