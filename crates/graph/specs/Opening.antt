@@ -1,14 +1,14 @@
 -- Opening a graph file.
-use Rattle.std.specs.Prelude.{ℕ, ◌+◌, ◌*◌, List, ◌++◌, length, drop, Ok, Err, Result, nat_lt, if◌then◌else◌}
+use Rattle.std.specs.Prelude.{ℕ, List, ◌++◌, length, drop, Ok, Err, Result, nat_lt, if◌then◌else◌}
 use Rattle.records.specs.Graphs.{Graph}
 use Rattle.graph.specs.declared.faults.InRecord.{InRecord}
 use Rattle.graph.specs.declared.faults.FileFault.{FileFault}
 use Rattle.graph.specs.declared.faults.FileFault.TheVariants.{Record, Rows, Memory}
 use Rattle.graph.specs.declared.rows.Opened.{Opened}
 use Rattle.graph.specs.Reading.{first_reading, graph_of}
-use Rattle.graph.specs.Limits.{max_rule_rows, head_words, row_width}
+use Rattle.graph.specs.Limits.{max_rule_rows}
 use Rattle.graph.specs.Law.{dependency_count, feature_count}
-use Rattle.graph.specs.Words.{rows, graph_words}
+use Rattle.graph.specs.Words.{rows, graph_words, row_start}
 use Rattle.graph.specs.Second.{second_reading}
 
 -- words in the place of as many at the front
@@ -40,7 +40,7 @@ after_second (Err e) r = Err (Record e)
 abbrev pub rows_answer : Graph → ℕ → List ℕ → Result Opened FileFault
 rows_answer g n words =
     if nat_lt max_rule_rows (length (rows g)) then Err Rows
-    else (if nat_lt (length words) (head_words + row_width * length (rows g)) then Err Memory
+    else (if nat_lt (length words) (row_start (length (rows g))) then Err Memory
     else Ok (opened_counts g n))
 
 -- both readings, then the rows

@@ -1,5 +1,5 @@
 -- Opening accepts exactly the lawful graphs, and lays down exactly their rules.
-use Rattle.std.specs.Prelude.{◌≡◌, ℕ, ◌+◌, ◌*◌, ◌<◌, ◌≤◌, true, false, ◌⊎◌, List, ◌++◌, length, Some, None, Ok, Err, codes, Result, slice_index_or}
+use Rattle.std.specs.Prelude.{◌≡◌, ℕ, ◌<◌, ◌≤◌, true, false, ◌⊎◌, List, ◌++◌, length, Some, None, Ok, Err, codes, Result, slice_index_or}
 use Rattle.std.specs.List.{flat_map, AllByRecursion, Contains}
 use Rattle.text.specs.Forms.{Form, plain, switch, strong, weak}
 use Rattle.records.specs.declared.faults.RecordFault.{RecordFault}
@@ -12,10 +12,10 @@ use Rattle.graph.specs.declared.rows.Opened.{Opened}
 use Rattle.graph.specs.Law.{Says}
 use Rattle.graph.specs.Places.{unit, dep, feat, dependencies_of, features_of, no_dependency, no_feature}
 use Rattle.graph.specs.Rules.{Rule, lane_of, rules}
-use Rattle.graph.specs.Words.{rows, graph_words}
+use Rattle.graph.specs.Words.{rows, graph_words, row_start}
 use Rattle.graph.specs.Opening.{over, opened_counts}
 use Rattle.graph.specs.Second.{DeclarationPlace, declaration_places}
-use Rattle.graph.specs.Limits.{max_bytes, max_rule_rows, head_words, row_width}
+use Rattle.graph.specs.Limits.{max_bytes, max_rule_rows}
 
 -- d is dependency k of package p; f is feature k of package p
 abbrev pub DependencyAt : Graph → ℕ → ℕ → Dependency → Type 0
@@ -62,7 +62,7 @@ pub record Opens (file words : List ℕ) (g : Graph) : Type 0 where
   pub says : Says file g
   pub resolved : ResolvedGraph g
   pub few : length (rows g) ≤ max_rule_rows
-  pub room : head_words + row_width * length (rows g) ≤ length words
+  pub room : row_start (length (rows g)) ≤ length words
 
 -- what this dependency or feature of package p refers to is there
 abbrev pub ResolvedDeclaration : Graph → ℕ → Declaration → Type 0
@@ -113,7 +113,7 @@ Lacks file words Rows =
     (g : Graph) × Says file g × ResolvedGraph g × (max_rule_rows < length (rows g))
 Lacks file words Memory =
     (g : Graph) × Says file g × ResolvedGraph g × (length (rows g) ≤ max_rule_rows)
-    × (length words < head_words + row_width * length (rows g))
+    × (length words < row_start (length (rows g)))
 
 -- Opening accepts exactly such a file, as that graph, of which there is one, and its words stand in
 -- front; where it is refused, what the refusal tells is lacking, and the words are as they were. More

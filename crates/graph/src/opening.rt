@@ -3,17 +3,18 @@ ghost use Rattle.std.specs.Prelude.{◌≡◌, ℕ, ◌+◌, ◌*◌, ◌≤◌,
 ghost use Rattle.std.specs.List.{flat_map};
 ghost use Rattle.records.specs.Graphs.{Graph};
 ghost use Rattle.graph.specs.Law.{Says};
-ghost use Rattle.graph.specs.Limits.{max_rule_rows, head_words, row_width};
+ghost use Rattle.graph.specs.Limits.{max_rule_rows};
 ghost use Rattle.graph.specs.RowLists.{its};
 ghost use Rattle.graph.specs.Opening.{over, rows_answer, words_after, open_answer, open_leaves};
 ghost use Rattle.graph.specs.OpeningLaw.{OpeningLaw, RulesLaw};
-ghost use Rattle.graph.specs.Words.{row_words, rows, graph_words};
+ghost use Rattle.graph.specs.Words.{row_words, rows, graph_words, row_start};
 
 use crate::faults::FileFault;
 use crate::filled::Filled;
+use crate::graph_words::row_start;
 use crate::limits::MAX_RULE_ROWS;
 use crate::row_writers::RowWriter;
-use crate::rows::{HEAD_WORDS, Opened, ROW_WIDTH};
+use crate::rows::Opened;
 use crate::tables::Directory;
 
 impl<'a> Filled<'a> {
@@ -22,9 +23,9 @@ impl<'a> Filled<'a> {
     fn write_all(&self, words: &mut [u32]) -> u32
         ensures count { result ≡ min (length (rows (its self.now))) (max_rule_rows + 1) }
         ensures words { length (rows (its self.now)) ≤ max_rule_rows →
-            head_words + row_width * length (rows (its self.now)) ≤ length words.old →
-            words.new ≡ take head_words words.old ++ (flat_map row_words (rows (its self.now))
-            ++ drop (head_words + row_width * length (rows (its self.now))) words.old) }
+            row_start (length (rows (its self.now))) ≤ length words.old →
+            words.new ≡ take (row_start 0) words.old ++ (flat_map row_words (rows (its self.now))
+            ++ drop (row_start (length (rows (its self.now)))) words.old) }
     {
         let mut writer = RowWriter { words, count: 0 };
         self.write_package_rows(&mut writer);
@@ -34,7 +35,7 @@ impl<'a> Filled<'a> {
     // The words of the graph: how many packages, dependencies, features and rows there are, then the rows.
     fn write(&self, words: &mut [u32], count: u32)
         requires all { (count ≡ length (rows (its self.now))) × (count ≤ max_rule_rows) }
-        requires room { head_words + row_width * count ≤ length words.old }
+        requires room { row_start count ≤ length words.old }
         ensures { words.new ≡ over (graph_words (its self.now)) words.old }
     {
         self.write_all(words);
@@ -55,7 +56,7 @@ impl<'a> Filled<'a> {
         if rows > MAX_RULE_ROWS {
             return Err(FileFault::Rows);
         }
-        if words.len() < HEAD_WORDS + ROW_WIDTH * rows as usize {
+        if words.len() < row_start(rows) {
             return Err(FileFault::Memory);
         }
         self.write(words, rows);

@@ -10,23 +10,23 @@ use text::{FeatureString, Piece, StringFault, read_feature_string, read_name};
 
 // What a string of a record is read as.
 pub(crate) trait FromPiece<'a>: Copy {
-    // a reading, with the bytes in the place of what refers to them
-    ghost Seen: { Type 0 };
+    // what such a string says, with the bytes in the place of what refers to them
+    ghost Meaning: { Type 0 };
 
-    ghost seen: { Self → Seen };
+    ghost meaning: { Self → Meaning };
 
-    ghost reading: { Piece → Result Seen InField };
+    ghost reading: { Piece → Result Meaning InField };
 
     // A string of a record, if it is such a one.
     fn read(text: Piece<'a>) -> Result<Self, InField>
-        ensures { map_ok seen result ≡ reading (piece text.entry) };
+        ensures { map_ok meaning result ≡ reading (piece text.entry) };
 }
 
 // A name.
 impl<'a> FromPiece<'a> for Piece<'a> {
-    ghost Seen = { Piece };
+    ghost Meaning = { Piece };
 
-    ghost seen = { piece };
+    ghost meaning = { piece };
 
     ghost reading = { name_from };
 
@@ -39,9 +39,9 @@ impl<'a> FromPiece<'a> for Piece<'a> {
 
 // A feature string.
 impl<'a> FromPiece<'a> for FeatureString<'a> {
-    ghost Seen = { Form Piece };
+    ghost Meaning = { Form Piece };
 
-    ghost seen = { form };
+    ghost meaning = { form };
 
     ghost reading = { form_from };
 

@@ -2,7 +2,6 @@
 -- proof, which a reader need not believe: it stands here because code can import what proves a trait's law from specs/ alone.
 use Rattle.std.specs.Prelude.{◌≡◌, ℕ, ◌<◌, ◌≤◌, Bool, true, false, cond, ◌⊎◌, Some, None, Option, ◌==◌, refl, IfSome}
 use Rattle.std.proofs.Common.{sym, ap, ◌∙◌, subst, inl, inr, ⊎_elim, arith}
-use Rattle.std.proofs.lemmas.Bool.{cond-true, cond-false, eqb-true, eq-eqb, ne_eqb, cases_eq}
 use Rattle.graph.specs.declared.rows.ItemRule.{ItemRule}
 use Rattle.rulebook.specs.declared.entries.WatchEntry.{WatchEntry}
 use Rattle.rulebook.specs.Tables.{Laws, pair, max_items, max_rows}
@@ -18,7 +17,7 @@ Premise ρ i = (ρ.from ≡ i) ⊎ (ρ.with ≡ Some i)
 
 is-item : (m : Option ℕ) (i : ℕ) → is_item m i ≡ true → m ≡ Some i
 is-item None i h = absurd (cc h)
-is-item (Some j) i h = ap Some (eqb-true j i h)
+is-item (Some j) i h = grind arith
 
 -- which premise an entry is watched from
 pub record Watches (ρ : ItemRule) (i : ℕ) (e : WatchEntry) : Type 0 where
@@ -26,33 +25,20 @@ pub record Watches (ρ : ItemRule) (i : ℕ) (e : WatchEntry) : Type 0 where
   pub by : ((ρ.from ≡ i) × (e.partner ≡ ρ.with)) ⊎ ((ρ.with ≡ Some i) × (e.partner ≡ Some ρ.from))
 
 module _ (ρ : ItemRule) where
-  same-entry : (u v : WatchEntry) → ◌≡◌ {A = Option WatchEntry} (Some u) (Some v) → u ≡ v
-  same-entry u v h = cc
-
   pub watches : (i : ℕ) (e : WatchEntry) → watch_entry ρ i ≡ Some e → Watches ρ i e
-  watches i e h = go (ρ.from == i) refl h
+  watches i e h = go (ρ.from == i) refl (is_item ρ.with i) refl h
     where
-      lone : WatchEntry
-      lone = record { partner = ρ.with; conclusion = ρ.to }
-
-      go : (b : Bool) → (ρ.from == i) ≡ b → cond b (Some lone) (cond (is_item ρ.with i) (Some (pair ρ.from ρ.to)) None) ≡ Some e → Watches ρ i e
-      go true b h =
-          let q = same-entry lone e h in
-          record { concludes = sym (ap (λ (v : WatchEntry). v.conclusion) q); by = inl (eqb-true ρ.from i b, sym (ap (λ (v : WatchEntry). v.partner) q)) }
-      go false b h =
-          let w = cond-some (is_item ρ.with i) (Some (pair ρ.from ρ.to)) e h in
-          let q = same-entry (pair ρ.from ρ.to) e w.1 in
-          record { concludes = sym (ap (λ (v : WatchEntry). v.conclusion) q); by = inr (is-item ρ.with i w.0, sym (ap (λ (v : WatchEntry). v.partner) q)) }
+      go : (a : Bool) → (ρ.from == i) ≡ a → (b : Bool) → is_item ρ.with i ≡ b →
+          cond a (Some (record { partner = ρ.with; conclusion = ρ.to })) (cond b (Some (pair ρ.from ρ.to)) None) ≡ Some e → Watches ρ i e
+      go true p b q h = record { concludes = grind arith; by = inl (grind arith, grind arith) }
+      go false p true q h = record { concludes = grind arith; by = inr (is-item ρ.with i q, grind arith) }
+      go false p false q h = absurd (cc h)
 
   pub from-watches : watch_entry ρ ρ.from ≡ Some (record { partner = ρ.with; conclusion = ρ.to })
-  from-watches = cond-true (ρ.from == ρ.from) _ _ (eq-eqb ρ.from ρ.from refl)
+  from-watches = grind arith
 
   pub with-watches : (i : ℕ) → ρ.with ≡ Some i → watch_entry ρ i ≡ Some (pair ρ.from ρ.to)
-  with-watches i h = ⊎_elim
-      (λ (z : ρ.from ≡ i). cond-true (ρ.from == i) _ _ (eq-eqb ρ.from i z)
-      ∙ ap (λ (o : Option ℕ). Some (record { partner = o; conclusion = ρ.to })) (h ∙ ap Some (sym z)))
-      (λ (z : ρ.from ≡ i → ⊥). cond-false (ρ.from == i) _ _ (ne_eqb ρ.from i z) ∙ cond-true (is_item ρ.with i) _ _ (ap (λ o. is_item o i) h ∙ eq-eqb i i refl))
-      (cases_eq ρ.from i)
+  with-watches i h = grind arith
 
   -- a pair rule is watched from both premises
   pub watches-both : (a b c : ℕ) → Watches ρ a (pair b c) → Premise ρ b × (watch_entry ρ b ≡ Some (pair a c))

@@ -16,5 +16,5 @@ returns-clause-answer c =
     let r : c.write_all-rows.result ≡ length (rows g) = omega (arith, c.write_all-rows.ensures.count, c.if-rows-gt-MAX_RULE_ROWS.false) in
     let all : rows_answer g n words ≡ Ok (opened_counts g n) =
     cond-false _ _ _ (le-ltb max_rule_rows (length (rows g)) (omega (arith, r, c.if-rows-gt-MAX_RULE_ROWS.false)))
-    ∙ cond-false _ _ _ (le-ltb (length words) (4 + 5 * length (rows g)) (omega (arith, r, c.if-words-rows.false))) in
+    ∙ cond-false _ _ _ (le-ltb (length words) (4 + 5 * length (rows g)) (omega (arith, r, c.if-words-row_start.false, c.row_start.ensures))) in
     (λ i. Ok (record { read = n; packages = packages-told x i; dependencies = dependencies-told x i; features = features-told x i; rows = r i })) ∙ sym all
