@@ -11,7 +11,7 @@ import os
 import random
 import sys
 
-MAX_BYTES, MAX_PACKAGES, MAX_DEPENDENCIES, MAX_FEATURES = 1_048_576, 4_096, 16_384, 16_384
+MAX_BYTES, MAX_FEATURES, MAX_ROWS = 1_048_576, 16_384, 262_144
 
 # a record has at most so many asks or values
 MAX_STRINGS = 255
@@ -106,8 +106,9 @@ def workspace(packages):
     names = crate_names(dice, packages)
     ends, features = [], []
     for p in range(packages):
-        # most dependencies are on a few packages that many depend on, which stand at the end
-        count = min(dice.choice([0, 1, 2, 3, 4, 5, 6, 8, 12, 20]), packages - 1 - p)
+        # the first packages have many dependencies, and most are on a few that many depend on, which stand at the end
+        count = dice.choice([12, 16, 24] if p < packages // 20 + 1 else [0, 1, 2, 3, 4, 5, 6, 8, 12])
+        count = min(count, packages - 1 - p)
         ends.append(sorted({packages - 1 - int((packages - 1 - p) * dice.random() ** 3) for _ in range(count)}))
         optional = {e for e in ends[p] if dice.random() < 0.3}
         features.append((optional, crate_features(dice, [names[e] for e in ends[p] if e in optional])))
@@ -186,6 +187,14 @@ that looks at each dependency of its name"""
     return file(namesakes(count, lambda k: k == count - 1, "dep:b"))
 
 
+def rows(count):
+    """so many optional dependencies of one name, and values `b/x` that make nearly as many rows as there may be: the \
+worst for writing them"""
+    dependencies = [dependency("b", 0, optional=1) for _ in range(count)]
+    named = ["b/x"] * ((MAX_ROWS - count) // (2 * count))
+    return file([package("p"), feature("x"), package("q")] + dependencies + values(named))
+
+
 def many(count):
     """so many dependencies of one name, all optional, and values `b/x`: as many rows as values x dependencies x 2 \
 make, the worst for counting them"""
@@ -254,6 +263,7 @@ KINDS = {
     asks: [40_000, 80_000, 160_000],
     names: [4_096, 8_192, 16_384],
     switches: [128, 256, 512, 4_096, 8_192, 16_384],
+    rows: [1_024, 2_048, 4_096],
     many: [128, 256, 512, 4_096, 8_192, 16_384],
     late: [128, 256, 512, 4_096, 8_192, 16_384],
     products: [64, 128, 256, 4_096, 8_192, 15_784],

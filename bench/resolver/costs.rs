@@ -46,10 +46,8 @@ pub fn print_stack(all: &[Measured<'_>], words: &mut Words) {
     line("example", 1, EXAMPLE);
     let quick = |measured: &&Measured| measured.times.library < Duration::from_secs(1);
     let all: Vec<&Measured> = all.iter().filter(quick).collect();
-    for (place, Measured { graph, .. }) in all.iter().enumerate() {
-        let next = all.get(place + 1);
-        if next.is_none_or(|next| next.graph.kind != graph.kind) {
-            line(&graph.kind, graph.size, &graph.bytes);
-        }
+    for kind in all.chunk_by(|measured, next| measured.graph.kind == next.graph.kind) {
+        let graph = kind[kind.len() - 1].graph;
+        line(&graph.kind, graph.size, &graph.bytes);
     }
 }

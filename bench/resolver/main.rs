@@ -10,6 +10,7 @@ mod costs;
 mod damages;
 mod example;
 mod files;
+mod memory;
 mod opening;
 mod plain;
 mod settling;
@@ -82,5 +83,6 @@ fn main() {
         return timing::in_thread(STACK, || open_once(&path));
     }
     let options = Options::read(words);
+    memory::keep();
     timing::in_thread(STACK, || run(&options));
 }

@@ -22,6 +22,7 @@ impl Words {
     }
 }
 
+/// A time as a number of microseconds.
 pub fn microseconds(time: Duration) -> f64 {
     time.as_secs_f64() * 1e6
 }
@@ -105,12 +106,8 @@ pub fn print_times<'a>(
     println!("|---|---|---|---|---|---|---|---|");
     let mut all = Vec::new();
     for graph in graphs {
-        let begin = format!(
-            "| {} | {} | {} |",
-            graph.kind,
-            graph.size,
-            graph.bytes.len()
-        );
+        let (kind, size, bytes) = (&graph.kind, graph.size, graph.bytes.len());
+        let begin = format!("| {kind} | {size} | {bytes} |");
         let answer = answer(graph, words);
         let Some(measured) = measure(graph, words, limit) else {
             let plain = by_turns(|| (), || plain::open(&graph.bytes, &mut words.plain)).plain;
@@ -130,12 +127,8 @@ pub fn print_times<'a>(
 /// What each kind of graph is the worst case of.
 fn print_kinds(graphs: &[GraphFile]) {
     println!();
-    let mut last = "";
-    for graph in graphs
-        .iter()
-        .filter(|graph| std::mem::replace(&mut last, &graph.kind) != graph.kind)
-    {
-        println!("- {}: {}", graph.kind, graph.what);
+    for kind in graphs.chunk_by(|graph, next| graph.kind == next.kind) {
+        println!("- {}: {}", kind[0].kind, kind[0].what);
     }
 }
 
@@ -144,11 +137,11 @@ pub fn print_growth(all: &[Measured<'_>]) {
     println!("\n## How it grows\n");
     println!("| Graph | Sizes | Bytes: times | Library: times | Plain: times |");
     println!("|---|---|---|---|---|");
-    for pair in all
-        .windows(2)
-        .filter(|pair| pair[0].graph.kind == pair[1].graph.kind)
-    {
+    for pair in all.windows(2) {
         let [less, more] = pair else { continue };
+        if less.graph.kind != more.graph.kind {
+            continue;
+        }
         let bytes = more.graph.bytes.len() as f64 / less.graph.bytes.len() as f64;
         let library = more.times.library.div_duration_f64(less.times.library);
         let plain = more.times.plain.div_duration_f64(less.times.plain);

@@ -29,9 +29,9 @@ fn timed<T>(calls: u32, call: &mut impl FnMut() -> T) -> Duration {
     (processor_time() - before) / calls
 }
 
-/// How many calls one timing takes.
-fn calls<T>(call: &mut impl FnMut() -> T) -> u32 {
-    let once = timed(1, call).max(Duration::from_nanos(1));
+/// How many calls one timing takes, where one takes so long.
+fn calls(once: Duration) -> u32 {
+    let once = once.max(Duration::from_nanos(1));
     SHORTEST.div_duration_f64(once).ceil() as u32
 }
 
@@ -55,9 +55,10 @@ fn medians(pairs: &[(Duration, Duration)]) -> Times {
 
 /// Times both calls by turns, once each at least.
 pub fn by_turns<T, U>(mut library: impl FnMut() -> T, mut plain: impl FnMut() -> U) -> Times {
-    let (begin, mut pairs) = (Instant::now(), Vec::new());
-    let counts = (calls(&mut library), calls(&mut plain));
-    while pairs.is_empty() || (pairs.len() < RUNS && begin.elapsed() < ENOUGH) {
+    let begin = Instant::now();
+    let first = (timed(1, &mut library), timed(1, &mut plain));
+    let (counts, mut pairs) = ((calls(first.0), calls(first.1)), vec![first]);
+    while pairs.len() < RUNS && begin.elapsed() < ENOUGH {
         pairs.push((timed(counts.0, &mut library), timed(counts.1, &mut plain)));
     }
     medians(&pairs)

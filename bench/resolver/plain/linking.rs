@@ -29,14 +29,11 @@ pub fn link(graph: &mut Graph<'_>, file: &[u8]) -> Result<Links, Refusal> {
     check_ends(graph)?;
     let mut links = Links::of(graph);
     for package in 0..graph.packages.len() {
-        let asks = links
-            .link_asks(graph, package)
-            .map_err(|(place, ask)| unknown(file, place, ask));
+        let asks = links.link_asks(graph, package);
         let values = links.link_values(graph, package);
-        let values = values.map_err(|(place, value)| unknown(file, place, value));
-        let refused = asks.err().into_iter().chain(values.err());
-        if let Some(first) = refused.min_by_key(|refusal| refusal.byte) {
-            return Err(first);
+        let nothing = [asks, values].into_iter().filter_map(Result::err);
+        if let Some((place, number)) = nothing.min_by_key(|(place, _)| place.record) {
+            return Err(unknown(file, place, number));
         }
     }
     Ok(links)
@@ -136,10 +133,10 @@ impl Links {
         } = graph;
         let package = &packages[package];
         for group in package.groups.clone() {
-            names.name(groups[group as usize].name).group = group;
+            names.get_mut(groups[group as usize].name).group = group;
         }
         for feature in package.features.clone() {
-            names.name(features[feature as usize].name).feature = feature;
+            names.get_mut(features[feature as usize].name).feature = feature;
         }
         for feature in part(features, &package.features) {
             for (number, value) in part_mut(values, &feature.values).iter_mut().enumerate() {

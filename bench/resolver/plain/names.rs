@@ -60,12 +60,12 @@ pub struct Names<'a> {
 }
 
 impl<'a> Names<'a> {
-    /// No names yet.
-    pub fn new(hash: Hash) -> Names<'a> {
+    /// No names yet, with room for so many.
+    pub fn with_room(hash: Hash, count: usize) -> Names<'a> {
         Names {
             hash,
-            table: Table::with_room(64),
-            names: Vec::with_capacity(64),
+            table: Table::with_room(count),
+            names: Vec::with_capacity(count),
         }
     }
 
@@ -94,7 +94,7 @@ impl<'a> Names<'a> {
 
     /// The same, to be noted for.
     #[inline]
-    pub fn name(&mut self, number: u32) -> &mut Name<'a> {
+    pub fn get_mut(&mut self, number: u32) -> &mut Name<'a> {
         &mut self.names[number as usize]
     }
 }
