@@ -132,14 +132,14 @@ fn print_kinds(graphs: &[GraphFile]) {
     }
 }
 
-/// How bytes and times grow from each size of a kind to the next.
+/// How bytes and times grow from each size of a kind to the next, if both are accepted or both refused.
 pub fn print_growth(all: &[Measured<'_>]) {
     println!("\n## How it grows\n");
     println!("| Graph | Sizes | Bytes: times | Library: times | Plain: times |");
     println!("|---|---|---|---|---|");
     for pair in all.windows(2) {
         let [less, more] = pair else { continue };
-        if less.graph.kind != more.graph.kind {
+        if less.graph.kind != more.graph.kind || less.rows.is_some() != more.rows.is_some() {
             continue;
         }
         let bytes = more.graph.bytes.len() as f64 / less.graph.bytes.len() as f64;

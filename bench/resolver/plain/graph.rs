@@ -136,7 +136,7 @@ impl<'a> Graph<'a> {
     pub fn join_group(&mut self, name: u32, optional: bool) -> u32 {
         let owner = self.packages.len() - 1;
         let groups = &mut self.packages[owner].groups;
-        let last = &mut self.names.get_mut(name).group;
+        let last = &mut self.names.noted_mut(name).group;
         if !groups.contains(last) {
             *last = groups.end;
             groups.end += 1;
@@ -156,7 +156,7 @@ impl<'a> Graph<'a> {
     pub fn add_feature(&mut self, name: u32, place: Place) -> bool {
         let owner = self.packages.len() - 1;
         let features = &mut self.packages[owner].features;
-        let last = &mut self.names.get_mut(name).feature;
+        let last = &mut self.names.noted_mut(name).feature;
         if features.contains(last) {
             return false;
         }

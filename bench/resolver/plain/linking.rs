@@ -133,10 +133,10 @@ impl Links {
         } = graph;
         let package = &packages[package];
         for group in package.groups.clone() {
-            names.get_mut(groups[group as usize].name).group = group;
+            names.noted_mut(groups[group as usize].name).group = group;
         }
         for feature in package.features.clone() {
-            names.get_mut(features[feature as usize].name).feature = feature;
+            names.noted_mut(features[feature as usize].name).feature = feature;
         }
         for feature in part(features, &package.features) {
             for (number, value) in part_mut(values, &feature.values).iter_mut().enumerate() {
@@ -214,13 +214,13 @@ struct Own<'g, 'a> {
 impl Own<'_, '_> {
     #[inline]
     fn feature(&self, name: u32) -> Option<u32> {
-        let feature = self.names.get(name).feature;
+        let feature = self.names.noted(name).feature;
         self.package.features.contains(&feature).then_some(feature)
     }
 
     #[inline]
     fn group(&self, name: u32) -> Option<u32> {
-        let group = self.names.get(name).group;
+        let group = self.names.noted(name).group;
         self.package.groups.contains(&group).then_some(group)
     }
 }

@@ -45,18 +45,19 @@ impl Hash {
 /// The number of nothing.
 pub const NOTHING: u32 = u32::MAX;
 
-/// A name, with the feature and the group of dependencies that were noted last for it, or nothing.
-pub struct Name<'a> {
-    bytes: &'a [u8],
+/// The feature and the group of dependencies that were noted last for a name, or nothing.
+#[derive(Clone, Copy)]
+pub struct Noted {
     pub feature: u32,
     pub group: u32,
 }
 
-/// The names of a file, each with a number.
+/// The names of a file, each with a number, and what was noted last for each.
 pub struct Names<'a> {
     hash: Hash,
     table: Table,
-    names: Vec<Name<'a>>,
+    names: Vec<&'a [u8]>,
+    noted: Vec<Noted>,
 }
 
 impl<'a> Names<'a> {
@@ -66,35 +67,35 @@ impl<'a> Names<'a> {
             hash,
             table: Table::with_room(count),
             names: Vec::with_capacity(count),
+            noted: Vec::with_capacity(count),
         }
     }
 
     /// The number of a name. A new one gets the next number.
     #[inline]
-    pub fn number(&mut self, bytes: &'a [u8]) -> u32 {
-        let Names { hash, table, names } = self;
-        let number = names.len() as u32;
-        let is = |it: u32| names[it as usize].bytes == bytes;
-        let found = table.get_or_put(hash.name(bytes), number, is);
-        found.unwrap_or_else(|| {
-            names.push(Name {
-                bytes,
+    pub fn number(&mut self, name: &'a [u8]) -> u32 {
+        let number = self.names.len() as u32;
+        let is = |it: u32| self.names[it as usize] == name;
+        let found = self.table.get_or_put(self.hash.name(name), number, is);
+        if found.is_none() {
+            self.names.push(name);
+            self.noted.push(Noted {
                 feature: NOTHING,
                 group: NOTHING,
             });
-            number
-        })
+        }
+        found.unwrap_or(number)
     }
 
-    /// The name of a number.
+    /// What was noted last for the name of a number.
     #[inline]
-    pub fn get(&self, number: u32) -> &Name<'a> {
-        &self.names[number as usize]
+    pub fn noted(&self, number: u32) -> Noted {
+        self.noted[number as usize]
     }
 
-    /// The same, to be noted for.
+    /// The same, to be changed.
     #[inline]
-    pub fn get_mut(&mut self, number: u32) -> &mut Name<'a> {
-        &mut self.names[number as usize]
+    pub fn noted_mut(&mut self, number: u32) -> &mut Noted {
+        &mut self.noted[number as usize]
     }
 }
