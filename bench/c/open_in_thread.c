@@ -7,7 +7,7 @@
 #include <stdlib.h>
 #include <string.h>
 
-/* The calls of the library; docs/architecture.md says what they answer. */
+/* The calls of the library; docs/other-languages.md says what they answer. */
 uint64_t naiadiron_open(const uint8_t *file, size_t bytes, uint32_t *words, size_t room);
 uint64_t naiadiron_settle(const uint32_t *words, size_t count, const uint32_t *requests, size_t requested,
                           uint32_t budget, uint32_t *active, size_t room);
