@@ -12,7 +12,7 @@ fn fold(number: u64) -> u64 {
     product as u64 ^ (product >> 64) as u64
 }
 
-/// How names and pairs of numbers are hashed: with a seed, so that no file can be made whose names all meet.
+/// How names and pairs of numbers are hashed: with a seed, so that a file whose names all meet is not easily made.
 #[derive(Clone, Copy)]
 pub struct Hash(u64);
 
