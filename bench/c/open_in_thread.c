@@ -37,7 +37,7 @@ static int failed = 1;
 
 static void *open_and_settle(void *nothing)
 {
-    uint32_t words[WORDS], active[ITEMS];
+    uint32_t words[WORDS] = {0}, active[ITEMS] = {0};
     uint64_t rows = naiadiron_open((const uint8_t *)example, FILE_BYTES, words, WORDS);
     if (rows == 0) {
         puts("refused");
