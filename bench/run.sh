@@ -7,7 +7,8 @@ demo=$root/crates/demo/out/demo
 [ -x "$demo" ] || { echo "no $demo: run rt run in crates/demo first" >&2; exit 1; }
 folder=$(mktemp -d)
 trap 'rm -rf "$folder"' EXIT
-python3 "$root/bench/make_graphs.py" "$folder" >/dev/null
+python3 "$root/bench/make_graphs.py" "$folder" largest=2048 largest=4096 features=8192 features=16384 \
+    asks=80000 asks=160000 names=8192 names=16384 >/dev/null
 
 # the time of one run in microseconds
 run() {

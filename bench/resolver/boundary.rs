@@ -1,5 +1,5 @@
-// The proved library, by the calls that its crate `boundary` exports.
-// A slice crosses as a pointer and a length, and the library's allocator as nothing.
+//! The proved library, by the calls that its crate `boundary` exports.
+//! A slice crosses as a pointer and a length, and the library's allocator as nothing.
 unsafe extern "C" {
     fn naiadiron_open(file: *const u8, bytes: usize, words: *mut u32, room: usize) -> u64;
 
@@ -14,7 +14,7 @@ unsafe extern "C" {
     ) -> u64;
 }
 
-// Opens a graph file into the words, and answers how many rule rows it has; none if it is refused.
+/// Opens a graph file into the words, and answers how many rule rows it has; none if it is refused.
 pub fn open(file: &[u8], words: &mut [u32]) -> Option<usize> {
     // SAFETY: the declaration is that of `crates/boundary/src/opening.rt`, which requires nothing, and both pointers
     // are those of slices that are lent for the call.
@@ -23,7 +23,7 @@ pub fn open(file: &[u8], words: &mut [u32]) -> Option<usize> {
     usize::try_from(answer).ok()?.checked_sub(1)
 }
 
-// Settles what the requests turn on, and answers how many of the words are the active items; none if it is refused.
+/// Settles what the requests turn on, and answers how many of the words are the active items; none if it is refused.
 pub fn settle(words: &[u32], requests: &[u32], active: &mut [u32]) -> Option<usize> {
     // SAFETY: the declaration is that of `crates/boundary/src/settling.rt`, which requires nothing, and the pointers
     // are those of slices that are lent for the call.

@@ -1,6 +1,6 @@
 #!/bin/sh
-# Builds the static library of the crate `boundary`, links it into the benchmark, and runs that. An argument is
-# the greatest number of rows of a graph that is settled.
+# Builds the static library of the crate `boundary`, links it into the benchmark, makes the graphs, and runs it.
+# Arguments are handed on: [--limit SECONDS] [--settle ROWS], as bench/README.md says.
 set -eu
 root=$(cd "$(dirname "$0")/../.." && pwd)
 here=$root/bench/resolver
@@ -10,4 +10,5 @@ out=$root/crates/boundary/out
 kit=$(dirname "$(rt doc)")
 rustc --edition 2024 -O "$here/main.rs" -o "$out/bench" \
     -C link-arg="$out/libboundary.a" -C link-arg="$kit/c/liblibc_c.a"
-"$out/bench" "$@"
+python3 "$root/bench/make_graphs.py" "$out/graphs" >/dev/null
+"$out/bench" "$out/graphs" "$@"
