@@ -19,8 +19,12 @@ fn request_and_settle<B: Rulebook>(
     requests: &[u32],
     budget: u32,
 ) -> Result<Outcome, SessionFault>
-    ensures answer { result ≡ request_and_settle_answer (state session.old) (B.Rulebook.table book.now) requests.now budget }
-    ensures state { state session.new ≡ request_and_settle_leaves (state session.old) (B.Rulebook.table book.now) requests.now budget }
+    ensures answer { result
+        ≡ request_and_settle_answer (state session.old) (B.Rulebook.table book.now)
+        requests.now budget }
+    ensures state { state session.new
+        ≡ request_and_settle_leaves (state session.old) (B.Rulebook.table book.now)
+        requests.now budget }
 {
     session.request(requests)?;
     session.settle(book, budget)
@@ -60,8 +64,10 @@ fn settle_graph(
     budget: u32,
     active: &mut [u32],
 ) -> Result<u64, AllocError>
-    ensures answer { IfOk result (λ n. n ≡ naiadiron_settle_answer words.now requests.now budget active.old) }
-    ensures active { IfOk result (λ n. active.new ≡ naiadiron_settle_leaves words.now requests.now budget active.old) }
+    ensures answer { IfOk result (λ n.
+        n ≡ naiadiron_settle_answer words.now requests.now budget active.old) }
+    ensures active { IfOk result (λ n.
+        active.new ≡ naiadiron_settle_leaves words.now requests.now budget active.old) }
     ensures below { IfOk result (λ n. n < 18446744073709551615) }
     ensures no_memory { IfErr result (λ e. active.new ≡ active.old) }
     ensures law { IfOk result (λ n. SettleLaw words.now requests.now n active.new) }
@@ -88,10 +94,13 @@ pub extern "C" fn naiadiron_settle(
     budget: u32,
     active: &mut [u32],
 ) -> u64
-    ensures answer { result ≢ 18446744073709551615 → result ≡ naiadiron_settle_answer words.now requests.now budget active.old }
-    ensures active { result ≢ 18446744073709551615 → active.new ≡ naiadiron_settle_leaves words.now requests.now budget active.old }
+    ensures answer { result ≢ 18446744073709551615 →
+        result ≡ naiadiron_settle_answer words.now requests.now budget active.old }
+    ensures active { result ≢ 18446744073709551615 →
+        active.new ≡ naiadiron_settle_leaves words.now requests.now budget active.old }
     ensures no_memory { result ≡ 18446744073709551615 → active.new ≡ active.old }
-    ensures law { result ≢ 18446744073709551615 → SettleLaw words.now requests.now result active.new }
+    ensures law { result ≢ 18446744073709551615 →
+        SettleLaw words.now requests.now result active.new }
 {
     settle_graph(heap, words, requests, budget, active).unwrap_or(NO_MEMORY)
 }

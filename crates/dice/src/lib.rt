@@ -1,26 +1,28 @@
-// Numbers that look random and are the same in each run.
+//! Numbers that look random and are the same in each run.
 
 #![tactic(auto)]
 
 ghost use Rattle.std.specs.Prelude.{◌≡◌, ◌<◌, ◌==◌, IfSome, Contains};
-ghost use Rattle.dice.specs.Numbers.{next, taken, picked, after_pick};
+ghost use Rattle.dice.specs.Numbers.{next, number_below, pick, next_after_pick};
 
+/// A source of such numbers.
 #[derive(Drop)]
 pub struct Dice {
     state: u64,
 }
 
 impl Dice {
+    /// The numbers of a seed, any number of 64 bits.
     pub fn new(seed: u64) -> Dice
         ensures { result.state ≡ seed }
     {
         Dice { state: seed }
     }
 
-    // A number below n, or 0 if n is.
+    /// A number below n, or 0 if n is.
     pub fn below(&mut self, n: usize) -> usize
         ensures state { self.new.state ≡ next self.old.state }
-        ensures value { result ≡ taken self.new.state n }
+        ensures value { result ≡ number_below self.new.state n }
         ensures below { 0 < n → result < n }
     {
         self.state = self
@@ -33,17 +35,18 @@ impl Dice {
         (self.state >> 33) as usize % n
     }
 
+    /// Whether a coin falls on one of its sides.
     pub fn coin(&mut self) -> bool
         ensures state { self.new.state ≡ next self.old.state }
-        ensures value { result ≡ (taken self.new.state 2 == 0) }
+        ensures value { result ≡ (number_below self.new.state 2 == 0) }
     {
         self.below(2) == 0
     }
 
-    // One of the list, if it has any.
+    /// One of the list, if it has any.
     pub fn pick(&mut self, list: &[usize]) -> Option<usize>
-        ensures state { self.new.state ≡ after_pick self.old.state list.now }
-        ensures value { result ≡ picked self.new.state list.now }
+        ensures state { self.new.state ≡ next_after_pick self.old.state list.now }
+        ensures value { result ≡ pick self.new.state list.now }
         ensures among { IfSome result (Contains list.now) }
     {
         if list.is_empty() {

@@ -9,12 +9,12 @@ use Rattle.records.specs.declared.faults.RecordFault.TheVariants.{Mark, Many, Tw
 use Rattle.records.specs.declared.frames.Kind.{Kind}
 use Rattle.records.specs.declared.frames.Kind.TheVariants as kind
 use Rattle.records.specs.Frames.{Frame, frame_of}
-use Rattle.records.specs.Fields.{View, on_ok, give, word_field, name_field, closed_of, closed_field, version_at, header_field}
+use Rattle.records.specs.Fields.{View, on_ok, give, word_field, name_field, end_of, end_field, version_at, header_field}
 use Rattle.records.specs.Bodies.{values_field, Head, package_field, dependency_field}
 use Rattle.records.specs.Graphs.{Dependency, Feature, dependency, feature}
 use Rattle.records.specs.Encoding.{two, four, string, list_bytes, value, package_body, dependency_body, feature_body, record_bytes, LawfulDependency, LawfulFeature, Bytes}
 use Rattle.lanes.specs.EdgeKinds.{edge_kind_number}
-use Rattle.lanes.specs.Lanes.{bit}
+use Rattle.std.specs.Int.{from_bool}
 use Rattle.records.proofs.Numbers.{not-both, in-ok, bytes-split}
 use Rattle.records.proofs.Framing.{frame-says, frame-reads}
 use Rattle.records.proofs.Codes.{at, first}
@@ -84,7 +84,7 @@ below-ok {B} n limit r b e = go (leb limit n) refl e
     go true q h = absurd (not-both h)
     go false q h = (leb-false limit n q, h)
 
-closed-says : (bs : List ℕ) (k : ℕ) (a : Unit {0}) (w : View) → closed_of bs k ≡ Ok (a, w) → bs ≡ []
+closed-says : (bs : List ℕ) (k : ℕ) (a : Unit {0}) (w : View) → end_of bs k ≡ Ok (a, w) → bs ≡ []
 closed-says [] k a w e = refl
 closed-says (b ∷ bs) k a w e = absurd (not-both e)
 
@@ -94,23 +94,23 @@ header-says bs k a w fit e =
     let c = word-coded.sound bs k h.0 h.1 fit h.2 in
     go h.0 h.1 (eqb h.0 1) refl c.1 h.3
   where
-    go : (x : ℕ) (v : View) (t : Bool) → eqb x 1 ≡ t → bs ≡ two x ++ v.left → cond t (closed_field v) (Err (Mark k)) ≡ Ok (a, w) → bs ≡ two 1
+    go : (x : ℕ) (v : View) (t : Bool) → eqb x 1 ≡ t → bs ≡ two x ++ v.left → cond t (end_field v) (Err (Mark k)) ≡ Ok (a, w) → bs ≡ two 1
     go x v true q s h = s ∙ (λ i. two (eqb-true x 1 q i) ++ closed-says v.left v.place a w h i)
     go x v false q s h = absurd (not-both h)
 
 package-says : (bs : List ℕ) (k : ℕ) (h : Head) (w : View) → Bytes bs → package_field (at bs k) ≡ Ok (h, w) → Name h.name × (bs ≡ package_body h.proc h.name)
 package-says bs k h w fit e =
     let s = package-closed.sound bs k h w fit e in
-    (s.1.1.0, s.2 ∙ ap (λ z. (bit h.proc ∷ []) ++ z) (append-nil (string h.name)))
+    (s.1.1.0, s.2 ∙ ap (λ z. (from_bool h.proc ∷ []) ++ z) (append-nil (string h.name)))
 
 pub package-reads : (h : Head) (k : ℕ) → Name h.name → (w : View) × (package_field (at (package_body h.proc h.name) k) ≡ Ok (h, w))
 package-reads h k law =
     let s = package-closed.complete h k tt (tt, (law, tt)) in
-    (s.0, ap (λ z. package_field (at ((bit h.proc ∷ []) ++ z) k)) (sym (append-nil (string h.name))) ∙ s.1)
+    (s.0, ap (λ z. package_field (at ((from_bool h.proc ∷ []) ++ z) k)) (sym (append-nil (string h.name))) ∙ s.1)
 
 -- the asks end a dependency's body
 abbrev asks_last : Dependency → List ℕ → List ℕ
-asks_last d z = two d.end ++ ((edge_kind_number d.edge ∷ []) ++ ((bit d.optional ∷ []) ++ ((bit d.defaults ∷ []) ++ (string d.name ++ z))))
+asks_last d z = two d.end ++ ((edge_kind_number d.edge ∷ []) ++ ((from_bool d.optional ∷ []) ++ ((from_bool d.defaults ∷ []) ++ (string d.name ++ z))))
 
 dependency-says : (bs : List ℕ) (k : ℕ) (d : Dependency) (w : View) → Bytes bs → dependency_field (at bs k) ≡ Ok (d, w) → LawfulDependency d × (bs ≡ dependency_body d)
 dependency-says bs k d w fit e =
@@ -206,7 +206,7 @@ module _ (st : Cursor) (k : ℕ) (body : List ℕ) (fit : Bytes body) (c : Conte
       subst (Tells st k body) r.3 ((z.0, z.1, b.0, s.0, s.1), z.2, s.2)
   kind-says (Some kind.End) e h =
       let z = kind_fits st.number st.packages k kind.End e in
-      let r = as-content (λ _. end) (closed_field (at body 6)) c h in
+      let r = as-content (λ _. end) (end_field (at body 6)) c h in
       subst (Tells st k body) r.3 (z.0, z.1, closed-says body 6 r.0 r.1 r.2)
 
 -- what is allowed is read from its kind and body

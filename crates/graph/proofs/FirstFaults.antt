@@ -11,7 +11,8 @@ use Rattle.records.specs.declared.faults.RecordFault.TheVariants.{Cut, Stray, Ra
 use Rattle.records.specs.declared.frames.Kind.{Kind}
 use Rattle.records.specs.declared.frames.Kind.TheVariants as kind
 use Rattle.records.specs.Frames.{Frame, frame_of, of_length, inside}
-use Rattle.records.specs.Fields.{View, Field, on_ok, and_then, byte_of, byte_field, word_of, word_field, string_of, string_field, or_text, name_from, name_field, form_from, form_field, switch_at, switch_field, edge_at, edge_field, closed_of, closed_field, version_at, header_field}
+use Rattle.lanes.specs.EdgeKinds.{edge_kind_at}
+use Rattle.records.specs.Fields.{View, Field, on_ok, and_then, byte_of, byte_field, word_of, word_field, string_of, string_field, or_text, name_from, name_field, form_from, form_field, switch_at, switch_field, or_mark, edge_at, edge_field, end_of, end_field, version_at, header_field}
 use Rattle.records.specs.Bodies.{many, name_text, form_text, names_field, forms_field, values_field, package_field, dependency_field}
 use Rattle.graph.specs.declared.faults.InRecord.{InRecord}
 use Rattle.graph.specs.declared.faults.FileFault.{FileFault}
@@ -69,15 +70,19 @@ fine_text : {A : Type 0} (r : Result A InField) → FineField (or_text r)
 fine_text (Ok a) v = tt
 fine_text (Err e) v = tt
 
-fine_closed : (bs : List ℕ) (at : ℕ) → Fine (closed_of bs at)
+fine_closed : (bs : List ℕ) (at : ℕ) → Fine (end_of bs at)
 fine_closed [] at = tt
 fine_closed (b ∷ bs) at = tt
 
 fine-switch : FineField switch_field
 fine-switch v = fine-then byte_field (switch_at v.place) (λ w. fine_byte w.left w.place) (λ b w. fine-cond (eqb b 0) _ _ tt (fine-cond (eqb b 1) _ _ tt tt)) v
 
+fine-or_mark : {A : Type 0} (at : ℕ) (o : Option A) (v : View) → Fine (or_mark at o v)
+fine-or_mark at (Some a) v = tt
+fine-or_mark at None v = tt
+
 fine-edge : FineField edge_field
-fine-edge v = fine-then byte_field (edge_at v.place) (λ w. fine_byte w.left w.place) (λ b w. fine-cond (eqb b 0) _ _ tt (fine-cond (eqb b 1) _ _ tt (fine-cond (eqb b 2) _ _ tt tt))) v
+fine-edge v = fine-then byte_field (edge_at v.place) (λ w. fine_byte w.left w.place) (λ b w. fine-or_mark v.place (edge_kind_at b) w) v
 
 fine-header : FineField header_field
 fine-header v = fine-then word_field (version_at v.place) (λ w. fine_word w.left w.place) (λ x w. fine-cond (eqb x 1) _ _ (fine_closed w.left w.place) tt) v
@@ -99,13 +104,13 @@ fine-values : FineField values_field
 fine-values =
     fine-then forms_field _
     (fine-then byte_field _ (λ v. fine_byte v.left v.place) (fine-many form_text (fine-then form_field _ fine-form (λ f v. tt))))
-    (λ values. fine-then closed_field _ (λ v. fine_closed v.left v.place) (λ u v. tt))
+    (λ values. fine-then end_field _ (λ v. fine_closed v.left v.place) (λ u v. tt))
 
 fine-package : FineField package_field
 fine-package =
     fine-then switch_field _ fine-switch (λ proc.
     fine-then name_text _ fine-name-text (λ name.
-    fine-then closed_field _ (λ v. fine_closed v.left v.place) (λ u v. tt)))
+    fine-then end_field _ (λ v. fine_closed v.left v.place) (λ u v. tt)))
 
 fine-dependency : FineField dependency_field
 fine-dependency =
@@ -115,7 +120,7 @@ fine-dependency =
     fine-then switch_field _ fine-switch (λ defaults.
     fine-then name_text _ fine-name-text (λ name.
     fine-then names_field _ (fine-then byte_field _ (λ v. fine_byte v.left v.place) (fine-many name_text fine-name-text)) (λ asks.
-    fine-then closed_field _ (λ v. fine_closed v.left v.place) (λ u v. tt)))))))
+    fine-then end_field _ (λ v. fine_closed v.left v.place) (λ u v. tt)))))))
 
 fine-feature : (keys : List Key) (owner : ℕ) → FineField (feature_field keys owner)
 fine-feature keys owner =

@@ -6,7 +6,7 @@ use Rattle.records.specs.declared.faults.RecordFault.TheVariants.{Many}
 use Rattle.records.specs.declared.frames.Kind.{Kind}
 use Rattle.records.specs.declared.frames.Kind.TheVariants as kind
 use Rattle.records.specs.Frames.{Frame}
-use Rattle.records.specs.Fields.{View, header_field, closed_field}
+use Rattle.records.specs.Fields.{View, header_field, end_field}
 use Rattle.records.specs.Bodies.{Head, package_field, dependency_field}
 use Rattle.records.specs.Graphs.{Dependency, Feature, dependency, feature}
 use Rattle.records.proofs.Codes.{at}
@@ -39,7 +39,7 @@ feature-reads st v (Some kind.Feature) x e = go (leb max_features (length st.key
     go : (t : Bool) → leb max_features (length st.keys) ≡ t → cond t (Err Many) (as_content (λ f. declaration (feature f)) (feature_field st.keys (st.packages - 1) v)) ≡ Ok (declaration (feature x)) → length st.keys < max_features
     go true q h = absurd (not-both h)
     go false q h = leb-false max_features (length st.keys) q
-feature-reads st v (Some kind.End) x e = absurd (go (closed_field v) e)
+feature-reads st v (Some kind.End) x e = absurd (go (end_field v) e)
   where
     go : (r : Result (Unit {0} × View) RecordFault) → as_content (λ _. end) r ≡ Ok (declaration (feature x)) → ⊥
     go (Ok p) h = let z : ◌≡◌ {A = ℕ} 0 1 = cc in omega arith

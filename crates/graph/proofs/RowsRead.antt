@@ -3,7 +3,8 @@ use Rattle.std.proofs.Common.{◌≡◌, ℕ, zero, suc, ◌+◌, ◌*◌, ◌<�
 use Rattle.std.specs.List.{flat_map}
 use Rattle.std.proofs.lemmas.Bool.{cond-true, cond-false, and_from, le-leb, ne_eqb}
 use Rattle.lanes.specs.declared.lane_numbers.Lane.{Lane}
-use Rattle.lanes.specs.Lanes.{bit, lanes, lane_number, lane_at}
+use Rattle.std.specs.Int.{from_bool}
+use Rattle.lanes.specs.Lanes.{lanes, lane_number, lane_at}
 use Rattle.lanes.proofs.LaneNumbers.{lane-back}
 use Rattle.graph.specs.declared.rows.Row.{Row}
 use Rattle.graph.specs.Words.{row_words, row_from, with_word, with_of, lane_word, none, row_start, in_range, row_within, row_at}
@@ -25,11 +26,11 @@ with-back (Some i) h = cond-false (eqb i none) None (Some i) (ne_eqb i none (λ 
 -- a row is read back from its words, if they tell its with from none
 row-from : (row : Row) → IfSome row.rule.with (λ i. i < none) → row_from (row_words row) ≡ Some row
 row-from row h =
-    cond-true (leb (lane_word row.lane) lanes && leb (bit row.cross) 1) _ None
-    (and_from (leb (lane_word row.lane) lanes) (leb (bit row.cross) 1) (lane row.lane).0 (cross row.cross).0)
+    cond-true (leb (lane_word row.lane) lanes && leb (from_bool row.cross) 1) _ None
+    (and_from (leb (lane_word row.lane) lanes) (leb (from_bool row.cross) 1) (lane row.lane).0 (cross row.cross).0)
     ∙ (λ i. Some (record { rule = record { from = row.rule.from; with = with-back row.rule.with h i; to = row.rule.to }; lane = (lane row.lane).1 i; cross = (cross row.cross).1 i }))
   where
-    cross : (b : Bool) → (leb (bit b) 1 ≡ true) × (eqb (bit b) 1 ≡ b)
+    cross : (b : Bool) → (leb (from_bool b) 1 ≡ true) × (eqb (from_bool b) 1 ≡ b)
     cross true = (refl, refl)
     cross false = (refl, refl)
 

@@ -7,7 +7,7 @@ use Rattle.records.specs.declared.frames.Kind.{Kind}
 use Rattle.records.specs.declared.frames.Kind.TheVariants as kind
 use Rattle.records.specs.Encoding.{kind_number}
 use Rattle.records.specs.Frames.{Frame, frame_of}
-use Rattle.records.specs.Fields.{View, Field, and_then, give, name_field, header_field, closed_field}
+use Rattle.records.specs.Fields.{View, Field, and_then, give, name_field, header_field, end_field}
 use Rattle.records.specs.Bodies.{Head, package_field, dependency_field, values_field}
 use Rattle.records.specs.Graphs.{Feature, Declaration, dependency, feature, Graph}
 use Rattle.graph.specs.declared.faults.InRecord.{InRecord}
@@ -72,7 +72,7 @@ content_as (Some kind.Header) st v = as_content (λ _. header) (header_field v)
 content_as (Some kind.Package) st v = if_room st.packages max_packages (as_content package_head (package_field v))
 content_as (Some kind.Dependency) st v = if_room st.dependencies max_dependencies (as_content (λ d. declaration (dependency d)) (dependency_field v))
 content_as (Some kind.Feature) st v = if_room (length st.keys) max_features (as_content (λ f. declaration (feature f)) (feature_field st.keys (st.packages - 1) v))
-content_as (Some kind.End) st v = as_content (λ _. end) (closed_field v)
+content_as (Some kind.End) st v = as_content (λ _. end) (end_field v)
 
 abbrev pub content_of : Cursor → Frame → Result Content RecordFault
 content_of st f = content_as (kind_here st.number st.packages f.kind) st (record { left = f.body; place = 6 })

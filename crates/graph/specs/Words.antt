@@ -2,7 +2,8 @@
 use Rattle.std.specs.Prelude.{if◌then◌else◌, ℕ, ◌+◌, ◌*◌, Bool, true, ◌&&◌, List, [], ◌∷◌, map, length, take, drop, Some, None, Option, ◌==◌, nat_le, nat_lt, slice_index, option_map}
 use Rattle.std.specs.List.{flat_map}
 use Rattle.lanes.specs.declared.lane_numbers.Lane.{Lane}
-use Rattle.lanes.specs.Lanes.{bit, lanes, lane_number, lane_at}
+use Rattle.std.specs.Int.{from_bool}
+use Rattle.lanes.specs.Lanes.{lanes, lane_number, lane_at}
 use Rattle.records.specs.Graphs.{Graph}
 use Rattle.graph.specs.declared.rows.ItemRule.{ItemRule}
 use Rattle.graph.specs.declared.rows.Row.{Row}
@@ -37,7 +38,7 @@ lane_word None = lanes
 lane_word (Some l) = lane_number l
 
 abbrev pub row_words : Row → List ℕ
-row_words r = r.rule.from ∷ with_word r.rule.with ∷ r.rule.to ∷ lane_word r.lane ∷ bit r.cross ∷ []
+row_words r = r.rule.from ∷ with_word r.rule.with ∷ r.rule.to ∷ lane_word r.lane ∷ from_bool r.cross ∷ []
 
 -- the words of a graph: P, E, F, R, then the rows
 abbrev pub graph_words : Graph → List ℕ

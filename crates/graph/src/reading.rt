@@ -83,7 +83,7 @@ fn content<'a>(
             Ok(Content::Feature(feature(index, owner, &mut body)?))
         }
         Kind::End => {
-            body.closed()?;
+            body.end()?;
             Ok(Content::End)
         }
     }

@@ -1,14 +1,10 @@
 -- Lanes by number: the edge kind is the lowest digit, the mark of a procedural macro the next.
-use Rattle.std.specs.Prelude.{ℕ, ◌+◌, ◌*◌, ◌/◌, ◌%◌, Some, None, Option, Bool, ◌==◌, nat_lt, unwrap_or, if◌then◌else◌}
+use Rattle.std.specs.Prelude.{ℕ, ◌+◌, ◌*◌, ◌/◌, ◌%◌, Some, None, Option, ◌==◌, nat_lt, unwrap_or, if◌then◌else◌}
 use Rattle.std.specs.Int.{from_bool}
 use Rattle.lanes.specs.declared.edge_kinds.EdgeKind.TheVariants.{Normal}
 use Rattle.lanes.specs.declared.lane_numbers.Lane.{Lane}
 use Rattle.lanes.specs.declared.lane_numbers.UnknownLane.{UnknownLane}
 use Rattle.lanes.specs.EdgeKinds.{edge_kinds, edge_kind_number, edge_kind_at}
-
--- a mark as a number
-abbrev pub bit : Bool → ℕ
-bit b = from_bool b
 
 -- how many values a mark has
 abbrev pub marks : ℕ

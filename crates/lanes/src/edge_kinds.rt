@@ -2,8 +2,8 @@
 ghost use Rattle.std.specs.Prelude.{◌≡◌, ok_or};
 ghost use Rattle.lanes.specs.EdgeKinds.{edge_kind_number, edge_kind_at, unknown_edge_kind};
 
-/// How many edge kinds there are.
-pub const EDGE_KINDS: u32 = 3;
+// How many edge kinds there are.
+pub(crate) const EDGE_KINDS: u32 = 3;
 
 /// What a dependency is for. The kinds are numbered from 0 in this order.
 #[derive(Clone, Copy, PartialEq, Eq, Debug)]

@@ -52,4 +52,5 @@ dev_cut below lane s = cut_by lane.edge (below lane s)
 
 -- the answers that a table holds
 abbrev pub answers_of : PolicyTable → Answers
-answers_of table lane s = slice_index_or (slice_index_or table.leads (side_number s) []) (lane_number lane) None
+answers_of table lane s =
+    slice_index_or (slice_index_or table.leads (side_number s) []) (lane_number lane) None

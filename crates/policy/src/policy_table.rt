@@ -18,7 +18,8 @@ pub struct PolicyTable {
 
 // Where each lane leads from a side.
 fn leads_from<P: Policy>(policy: &P, side: Side) -> [Option<Side>; LANES as usize]
-    ensures { (lane : Lane) → slice_index_or result (lane_number lane) None ≡ P.Policy.answers policy.now lane side }
+    ensures { (lane : Lane) → slice_index_or result (lane_number lane) None
+        ≡ P.Policy.answers policy.now lane side }
 {
     let lanes = Lane::all();
     array::from_fn(|number| policy.leads(lanes[number], side))
@@ -27,7 +28,8 @@ fn leads_from<P: Policy>(policy: &P, side: Side) -> [Option<Side>; LANES as usiz
 impl PolicyTable {
     /// Asks a policy for each of its answers.
     pub fn of<P: Policy>(policy: &P) -> PolicyTable
-        ensures { (lane : Lane) (side : Side) → answers_of result lane side ≡ P.Policy.answers policy.now lane side }
+        ensures { (lane : Lane) (side : Side) →
+            answers_of result lane side ≡ P.Policy.answers policy.now lane side }
     {
         PolicyTable {
             leads: [

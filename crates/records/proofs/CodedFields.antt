@@ -19,7 +19,7 @@ use Rattle.records.specs.Fields.{View, Field, on_ok, and_then, give, byte_of, by
 use Rattle.records.specs.Bodies.{many, name_text, form_text, names_field, forms_field, values_field, package_field, dependency_field}
 use Rattle.records.specs.Encoding.{two, string, list_bytes, value, Bytes}
 use Rattle.lanes.specs.EdgeKinds.{edge_kind_number}
-use Rattle.lanes.specs.Lanes.{bit}
+use Rattle.std.specs.Int.{from_bool}
 use Rattle.records.proofs.Numbers.{not-both, in-ok, two_is, two-value, bytes-split}
 use Rattle.records.proofs.Codes.{at, Coded, Closed, first, then-closed, closed-give, many-coded}
 
@@ -30,9 +30,6 @@ byte-sound [] k b w fit e = absurd (not-both e)
 byte-sound (x ∷ bs) k b w fit e =
     let q = in-ok (x, at bs (k + 1)) (b, w) e in
     (subst (λ p. p.0 < 256) q fit.0, subst (λ p. x ∷ bs ≡ p.0 ∷ p.1.left) q refl, subst (λ p. p.1.place ≡ k + 1) q refl)
-
-pub byte-coded : Coded byte_field (λ b. b < 256) (λ b. b ∷ [])
-byte-coded = record { sound = byte-sound; complete = λ b rest k good. refl }
 
 word_sound : (bs : List ℕ) (k x : ℕ) (w : View) → Bytes bs → word_of bs k ≡ Ok (x, w) → (x < 65536) × (bs ≡ two x ++ w.left) × (w.place ≡ k + 2)
 word_sound [] k x w fit e = absurd (not-both e)
@@ -61,13 +58,13 @@ module _ {A : Type 0} (choose : ℕ → ℕ → Field A) (number : A → ℕ)
     complete = λ a rest k good. chooses k (at rest (k + 1)) a;
   }
 
-by-switch : (k b : ℕ) (v : View) (a : Bool) (w : View) → switch_at k b v ≡ Ok (a, w) → (b ≡ bit a) × (w ≡ v)
+by-switch : (k b : ℕ) (v : View) (a : Bool) (w : View) → switch_at k b v ≡ Ok (a, w) → (b ≡ from_bool a) × (w ≡ v)
 by-switch k b v a w e = grind (arith, common_steps)
 
-pub switch-coded : Coded switch_field (λ _. Unit {0}) (λ a. bit a ∷ [])
-switch-coded = chosen-coded switch_at bit by-switch chooses
+pub switch-coded : Coded switch_field (λ _. Unit {0}) (λ a. from_bool a ∷ [])
+switch-coded = chosen-coded switch_at from_bool by-switch chooses
   where
-    chooses : (k : ℕ) (v : View) (a : Bool) → switch_at k (bit a) v ≡ Ok (a, v)
+    chooses : (k : ℕ) (v : View) (a : Bool) → switch_at k (from_bool a) v ≡ Ok (a, v)
     chooses k v false = refl
     chooses k v true = refl
 
@@ -191,7 +188,7 @@ forms-coded = list-coded form-coded
 
 -- bodies
 
-pub package-closed : Closed package_field (λ _. Unit {0}) (λ h. Unit {0} × (Name h.name × Unit {0})) (λ h. (bit h.proc ∷ []) ++ (string h.name ++ []))
+pub package-closed : Closed package_field (λ _. Unit {0}) (λ h. Unit {0} × (Name h.name × Unit {0})) (λ h. (from_bool h.proc ∷ []) ++ (string h.name ++ []))
 package-closed =
     then-closed switch-coded (λ h. h.proc) _ _ _ _ (λ proc.
     then-closed name-coded (λ h. h.name) _ _ _ _ (λ name.
@@ -201,7 +198,7 @@ pub values-closed : Closed values_field (λ _. Unit {0}) (λ fs. ((length fs < 2
 values-closed = then-closed forms-coded (λ fs. fs) _ _ _ _ (λ fs. closed-give fs _ (tt, refl) (λ gs b. b.1))
 
 pub dependency-closed : Closed dependency_field (λ _. Unit {0}) (λ d. (d.end < 65536) × (Unit {0} × (Unit {0} × (Unit {0} × (Name d.name × (((length d.asks < 256) × AllByRecursion Name d.asks) × Unit {0}))))))
-    (λ d. two d.end ++ ((edge_kind_number d.edge ∷ []) ++ ((bit d.optional ∷ []) ++ ((bit d.defaults ∷ []) ++ (string d.name ++ (list_bytes string d.asks ++ []))))))
+    (λ d. two d.end ++ ((edge_kind_number d.edge ∷ []) ++ ((from_bool d.optional ∷ []) ++ ((from_bool d.defaults ∷ []) ++ (string d.name ++ (list_bytes string d.asks ++ []))))))
 dependency-closed =
     then-closed word-coded (λ d. d.end) _ _ _ _ (λ end.
     then-closed edge-coded (λ d. d.edge) _ _ _ _ (λ edge.

@@ -3,7 +3,7 @@ use Rattle.std.proofs.Common.{◌≡◌, ℕ, zero, suc, ◌+◌, List, [], ◌�
 use Rattle.std.proofs.lemmas.List.{length-append}
 use Rattle.std.specs.List.{flat_map, AllByRecursion}
 use Rattle.records.specs.declared.faults.RecordFault.{RecordFault}
-use Rattle.records.specs.Fields.{View, Field, on_ok, and_then, give, closed_of, closed_field}
+use Rattle.records.specs.Fields.{View, Field, on_ok, and_then, give, end_of, end_field}
 use Rattle.records.specs.Bodies.{many}
 use Rattle.records.specs.Encoding.{Bytes}
 use Rattle.records.proofs.Numbers.{not-both, in-ok, bytes-split}
@@ -41,13 +41,13 @@ then-closed {A} {B} {m} {Good} {bytes} code declaration k Before More rest tail 
 }
 
 -- the record ends here, and the value is b
-pub closed-give : {B : Type 0} (b : B) (Before : B → Type 0) → Before b → ((c : B) → Before c → c ≡ b) → Closed (and_then closed_field (λ _. give b)) Before (λ _. Unit {0}) (λ _. [])
+pub closed-give : {B : Type 0} (b : B) (Before : B → Type 0) → Before b → ((c : B) → Before c → c ≡ b) → Closed (and_then end_field (λ _. give b)) Before (λ _. Unit {0}) (λ _. [])
 closed-give {B} b Before known only = record {
   sound = λ bs p c w fit e. ended bs p c w e;
   complete = λ c p before good. (at [] p, ap (λ x. Ok (x, at [] p)) (sym (only c before)));
 }
   where
-    ended : (bs : List ℕ) (p : ℕ) (c : B) (w : View) → on_ok (closed_of bs p) (λ _. give b) ≡ Ok (c, w) → Before c × Unit {0} × (bs ≡ [])
+    ended : (bs : List ℕ) (p : ℕ) (c : B) (w : View) → on_ok (end_of bs p) (λ _. give b) ≡ Ok (c, w) → Before c × Unit {0} × (bs ≡ [])
     ended [] p c w e = (subst Before (ap (λ x. x.0) (in-ok (b, at [] p) (c, w) e)) known, tt, refl)
     ended (x ∷ bs) p c w e = absurd (not-both e)
 

@@ -1,5 +1,6 @@
 -- A list that was read has as many strings as its count says.
-use Rattle.std.proofs.Common.{◌≡◌, ℕ, zero, suc, ◌+◌, List, ◌∷◌, ◌++◌, length, drop, Ok, Err, Result, sym, refl, ap, ◌∙◌, subst}
+use Rattle.std.proofs.Common.{◌≡◌, ℕ, zero, suc, ◌+◌, List, ◌∷◌, ◌++◌, length, drop, Ok, Err, Result, sym, refl, ap, ◌∙◌, subst, arith}
+use Rattle.std.proofs.lemmas.Grind.{common_steps}
 use Rattle.std.proofs.lemmas.List.{drop_at}
 use Rattle.text.specs.Forms.{Piece}
 use Rattle.records.specs.declared.faults.InField.{InField}
@@ -12,8 +13,7 @@ use Rattle.records.proofs.Codes.{first}
 use Rattle.records.proofs.CodedFields.{string-sound}
 
 read-left : {A : Type 0} (r : Result A InField) (v : View) (a : A) (w : View) → or_text r v ≡ Ok (a, w) → v.left ≡ w.left
-read-left (Ok b) v a w e = ap (λ p. p.1.left) (in-ok (b, v) (a, w) e)
-read-left (Err x) v a w e = absurd (not-both e)
+read-left r v a w e = grind (arith, common_steps)
 
 -- one string in front of as many as there should be
 one-more : (n : ℕ) (t rest bs left : List ℕ) → bs ≡ string t ++ rest → rest ≡ left → length (strings_in n left) ≡ n → length (strings_in (suc n) bs) ≡ suc n

@@ -1,20 +1,17 @@
 -- The record at the front of the bytes, as the code cuts it.
-use Rattle.std.proofs.Common.{◌≡◌, ℕ, ◌+◌, ◌*◌, ◌<◌, ◌≤◌, List, [], ◌∷◌, length, take, drop, Ok, Err, Result, sym, refl, ap, ◌∙◌, arith}
+use Rattle.std.proofs.Common.{◌≡◌, ℕ, ◌+◌, ◌*◌, ◌<◌, ◌≤◌, List, [], ◌∷◌, length, take, drop, Ok, Err, Result, sym, ap, ◌∙◌, arith}
 use Rattle.std.proofs.lemmas.Bool.{cond-false, le-ltb}
+use Rattle.std.proofs.lemmas.Grind.{common_steps}
 use Rattle.std.specs.Int.{w16, w32, from_le_bytes}
 use Rattle.records.specs.declared.faults.RecordFault.{RecordFault}
 use Rattle.records.specs.declared.faults.RecordFault.TheVariants.{Ragged}
 use Rattle.records.specs.Frames.{Frame, inside, of_length, frame_of}
 
 pub inside-ends : (xs after : List ℕ) → length xs < 2 → ◌≡◌ {A = Result Frame RecordFault} (Err (Ragged 0)) (inside xs after)
-inside-ends [] after l = refl
-inside-ends (a ∷ []) after l = refl
-inside-ends (a ∷ b ∷ xs) after l = absurd (omega arith)
+inside-ends xs after l = grind (arith, common_steps)
 
 pub inside-goes : (xs after : List ℕ) → 2 ≤ length xs → ◌≡◌ {A = Result Frame RecordFault} (Ok (record { kind = from_le_bytes w16 (take 2 xs); body = drop 2 xs; after = after })) (inside xs after)
-inside-goes [] after l = absurd (omega arith)
-inside-goes (a ∷ []) after l = absurd (omega arith)
-inside-goes (a ∷ b ∷ xs) after l = let e : from_le_bytes w16 (a ∷ b ∷ []) ≡ a + b * 256 = omega arith in ap (λ k. Ok (record { kind = k; body = xs; after = after })) e
+inside-goes xs after l = grind (arith, common_steps)
 
 pub frame-goes : (bs : List ℕ) (r : Result Frame RecordFault) → 4 ≤ length bs → from_le_bytes w32 (take 4 bs) ≤ length (drop 4 bs) → r ≡ inside (take (from_le_bytes w32 (take 4 bs)) (drop 4 bs)) (drop (from_le_bytes w32 (take 4 bs)) (drop 4 bs)) → r ≡ frame_of bs
 frame-goes [] r l m h = absurd (omega arith)

@@ -1,5 +1,5 @@
 -- Numbers as bytes, and bytes that fit.
-use Rattle.std.proofs.Common.{◌≡◌, ℕ, ◌+◌, ◌*◌, ◌/◌, ◌%◌, ◌<◌, List, [], ◌∷◌, ◌++◌, Ok, Err, Result, ap, ◌∙◌, arith}
+use Rattle.std.proofs.Common.{◌≡◌, ℕ, ◌+◌, ◌*◌, ◌/◌, ◌%◌, ◌<◌, List, [], ◌∷◌, ◌++◌, Ok, Err, Result, arith}
 use Rattle.records.specs.Encoding.{two, four, Bytes}
 
 -- of `Ok` and `Err`, of which the library has none; of options it has `none-some` and `same_Some`
@@ -25,16 +25,11 @@ two_is x a b e l =
     let q : x / 256 ≡ b = omega arith in
     (λ i. p i ∷ q i ∷ [])
 
-low : (a b : ℕ) → a < 256 → (a + b * 256) % 256 ≡ a
-low a b l = omega arith
-
 pub four_is : (x a b c d : ℕ) → x ≡ a + b * 256 + c * 65536 + d * 16777216 → a < 256 → b < 256 → c < 256 → four x ≡ a ∷ b ∷ c ∷ d ∷ []
 four_is x a b c d e la lb lc =
     let p : x % 256 ≡ a = omega arith in
-    let u : x / 256 ≡ b + c * 256 + d * 65536 = omega arith in
-    let v : x / 65536 ≡ c + d * 256 = omega arith in
-    let q : (x / 256) % 256 ≡ b = ap (λ y. y % 256) u ∙ (let e : b + c * 256 + d * 65536 ≡ b + (c + d * 256) * 256 = omega arith in ap (λ y. y % 256) e ∙ low b (c + d * 256) lb) in
-    let r : (x / 65536) % 256 ≡ c = ap (λ y. y % 256) v ∙ low c d lc in
+    let q : (x / 256) % 256 ≡ b = omega arith in
+    let r : (x / 65536) % 256 ≡ c = omega arith in
     let s : x / 16777216 ≡ d = omega arith in
     (λ i. p i ∷ q i ∷ r i ∷ s i ∷ [])
 

@@ -8,7 +8,7 @@ use Rattle.records.specs.declared.strings.Strings.{Strings}
 use Rattle.records.specs.declared.bodies.Package.{Package as PackageBody}
 use Rattle.records.specs.declared.bodies.Dependency.{Dependency as DependencyBody}
 use Rattle.records.specs.declared.bodies.Feature.{Feature as FeatureBody}
-use Rattle.records.specs.Fields.{Field, and_then, give, byte_field, word_field, name_field, form_field, switch_field, edge_field, closed_field, with_value, void}
+use Rattle.records.specs.Fields.{Field, and_then, give, byte_field, word_field, name_field, form_field, switch_field, edge_field, end_field, with_value, void}
 use Rattle.records.specs.Graphs.{Dependency, Feature}
 
 -- so many of one field
@@ -32,7 +32,7 @@ forms_field = and_then byte_field (many form_text)
 
 -- the values of a feature end its record
 abbrev pub values_field : Field (List (Form (List ℕ)))
-values_field = and_then forms_field (λ values. and_then closed_field (λ _. give values))
+values_field = and_then forms_field (λ values. and_then end_field (λ _. give values))
 
 -- so many strings at the front of some bytes
 abbrev pub strings_in : ℕ → List ℕ → List (List ℕ)
@@ -75,7 +75,7 @@ abbrev pub package_field : Field Head
 package_field =
     and_then switch_field (λ proc.
     and_then name_text (λ name.
-    and_then closed_field (λ _.
+    and_then end_field (λ _.
     give (record { proc = proc; name = name }))))
 
 -- the place of its name, where the body begins at `at`: behind the proc mark and the length byte of the name
@@ -104,8 +104,15 @@ dependency_field =
     and_then switch_field (λ defaults.
     and_then name_text (λ name.
     and_then names_field (λ asks.
-    and_then closed_field (λ _.
-    give (record { end = end; edge = edge; optional = optional; defaults = defaults; name = name; asks = asks }))))))))
+    and_then end_field (λ _.
+    give (record {
+      end = end;
+      edge = edge;
+      optional = optional;
+      defaults = defaults;
+      name = name;
+      asks = asks;
+    }))))))))
 
 -- the place of its name: behind the end, the edge kind, both switches and the length byte of the name
 abbrev pub dependency_name_at : ℕ → ℕ

@@ -4,7 +4,7 @@ use Rattle.std.specs.List.{flat_map, AllByRecursion}
 use Rattle.text.specs.Names.{Name}
 use Rattle.text.specs.Forms.{Form, spell, LawfulForm}
 use Rattle.lanes.specs.EdgeKinds.{edge_kind_number}
-use Rattle.lanes.specs.Lanes.{bit}
+use Rattle.std.specs.Int.{from_bool}
 use Rattle.records.specs.declared.frames.Kind.{Kind}
 use Rattle.records.specs.declared.frames.Kind.TheVariants as kind
 use Rattle.records.specs.Graphs.{Dependency, Feature, Declaration, dependency, feature, Package, Graph}
@@ -42,13 +42,13 @@ value f = string (spell f)
 
 -- proc mark, name
 abbrev pub package_body : Bool → List ℕ → List ℕ
-package_body proc name = (bit proc ∷ []) ++ string name
+package_body proc name = (from_bool proc ∷ []) ++ string name
 
 -- end, edge kind, optional, defaults, name, asks
 abbrev pub dependency_body : Dependency → List ℕ
 dependency_body d =
-    two d.end ++ ((edge_kind_number d.edge ∷ []) ++ ((bit d.optional ∷ []) ++ ((bit d.defaults ∷ [])
-    ++ (string d.name ++ list_bytes string d.asks))))
+    two d.end ++ ((edge_kind_number d.edge ∷ []) ++ ((from_bool d.optional ∷ [])
+    ++ ((from_bool d.defaults ∷ []) ++ (string d.name ++ list_bytes string d.asks))))
 
 -- name, values
 abbrev pub feature_body : Feature → List ℕ
@@ -59,7 +59,9 @@ declaration_bytes (dependency d) = record_bytes (kind_number kind.Dependency) (d
 declaration_bytes (feature f) = record_bytes (kind_number kind.Feature) (feature_body f)
 
 abbrev pub package_bytes : Package → List ℕ
-package_bytes p = record_bytes (kind_number kind.Package) (package_body p.proc p.name) ++ flat_map declaration_bytes p.declarations
+package_bytes p =
+    record_bytes (kind_number kind.Package) (package_body p.proc p.name)
+    ++ flat_map declaration_bytes p.declarations
 
 abbrev pub end_bytes : List ℕ
 end_bytes = record_bytes (kind_number kind.End) []
@@ -77,7 +79,8 @@ encode g = header_bytes ++ (flat_map package_bytes g ++ end_bytes)
 
 -- what is asked of a dependency and of a feature by itself
 abbrev pub LawfulDependency : Dependency → Type 0
-LawfulDependency d = (d.end < 65536) × Name d.name × (length d.asks < 256) × AllByRecursion Name d.asks
+LawfulDependency d =
+    (d.end < 65536) × Name d.name × (length d.asks < 256) × AllByRecursion Name d.asks
 
 abbrev pub LawfulFeature : Feature → Type 0
 LawfulFeature f = Name f.name × (length f.values < 256) × AllByRecursion LawfulForm f.values

@@ -1,5 +1,5 @@
 -- Reading fields, as functions of what is left of a record.
-use Rattle.std.specs.Prelude.{ℕ, ◌+◌, ◌*◌, Bool, true, false, cond, List, [], ◌∷◌, length, take, drop, Ok, Err, Result, ◌==◌, nat_lt}
+use Rattle.std.specs.Prelude.{ℕ, ◌+◌, ◌*◌, Bool, true, false, if◌then◌else◌, List, [], ◌∷◌, length, take, drop, Some, None, Ok, Err, Option, Result, ◌==◌, nat_lt}
 use Rattle.text.specs.declared.faults.StringFault.{StringFault}
 use Rattle.text.specs.declared.faults.StringFault.TheVariants.{NoForm}
 use Rattle.text.specs.Forms.{Form, Piece}
@@ -10,7 +10,7 @@ use Rattle.records.specs.declared.faults.RecordFault.{RecordFault}
 use Rattle.records.specs.declared.faults.RecordFault.TheVariants.{Ragged, Mark, Text}
 use Rattle.records.specs.declared.reader.Reader.{Reader}
 use Rattle.lanes.specs.declared.edge_kinds.EdgeKind.{EdgeKind}
-use Rattle.lanes.specs.declared.edge_kinds.EdgeKind.TheVariants.{Normal, Build, Dev}
+use Rattle.lanes.specs.EdgeKinds.{edge_kind_at}
 
 -- what is left of a record, and the place in it where that begins
 pub record View : Type 0 where
@@ -47,7 +47,9 @@ give a v = Ok (a, v)
 
 -- so many bytes
 abbrev pub bytes_of : ℕ → List ℕ → ℕ → Result (List ℕ × View) RecordFault
-bytes_of n bs at = cond (nat_lt (length bs) n) (Err (Ragged at)) (Ok (take n bs, record { left = drop n bs; place = at + n }))
+bytes_of n bs at =
+    if nat_lt (length bs) n then Err (Ragged at)
+    else Ok (take n bs, record { left = drop n bs; place = at + n })
 
 abbrev pub bytes_field : ℕ → Field (List ℕ)
 bytes_field n v = bytes_of n v.left v.place
@@ -73,8 +75,11 @@ word_field v = word_of v.left v.place
 abbrev pub string_of : List ℕ → ℕ → Result (Piece × View) RecordFault
 string_of [] at = Err (Ragged at)
 string_of (n ∷ bs) at =
-    cond (nat_lt (length bs) n) (Err (Ragged at))
-    (Ok (record { place = at + 1; text = take n bs }, record { left = drop n bs; place = (at + 1) + n }))
+    if nat_lt (length bs) n then Err (Ragged at)
+    else Ok (
+      record { place = at + 1; text = take n bs },
+      record { left = drop n bs; place = (at + 1) + n },
+    )
 
 abbrev pub string_field : Field Piece
 string_field v = string_of v.left v.place
@@ -102,37 +107,42 @@ name_field = text_field name_from
 -- a feature string; the empty one has a test of its own
 abbrev pub form_from : Piece → Result (Form Piece) InField
 form_from p =
-    cond (length p.text == 0) (Err (record { field = p.place; fault = NoForm 0 }))
-    (in_field p.place (λ f. f) (read_form p.text))
+    if length p.text == 0 then Err (record { field = p.place; fault = NoForm 0 })
+    else in_field p.place (λ f. f) (read_form p.text)
 
 abbrev pub form_field : Field (Form Piece)
 form_field = text_field form_from
 
 -- a byte that is 0 or 1
 abbrev pub switch_at : ℕ → ℕ → Field Bool
-switch_at at b v = cond (b == 0) (Ok (false, v)) (cond (b == 1) (Ok (true, v)) (Err (Mark at)))
+switch_at at b v = if b == 0 then Ok (false, v) else if b == 1 then Ok (true, v) else Err (Mark at)
 
 abbrev pub switch_field : Field Bool
 switch_field v = and_then byte_field (switch_at v.place) v
 
--- 0 normal, 1 build, 2 dev
+-- a value, unless the number that it was read from is out of range
+abbrev pub or_mark : {A : Type 0} → ℕ → Option A → Field A
+or_mark at (Some a) v = Ok (a, v)
+or_mark at None v = Err (Mark at)
+
+-- the number of an edge kind
 abbrev pub edge_at : ℕ → ℕ → Field EdgeKind
-edge_at at b v = cond (b == 0) (Ok (Normal, v)) (cond (b == 1) (Ok (Build, v)) (cond (b == 2) (Ok (Dev, v)) (Err (Mark at))))
+edge_at at b = or_mark at (edge_kind_at b)
 
 abbrev pub edge_field : Field EdgeKind
 edge_field v = and_then byte_field (edge_at v.place) v
 
 -- no byte is left over
-abbrev pub closed_of : List ℕ → ℕ → Result (Unit {0} × View) RecordFault
-closed_of [] at = Ok (tt, record { left = []; place = at })
-closed_of (b ∷ bs) at = Err (Ragged at)
+abbrev pub end_of : List ℕ → ℕ → Result (Unit {0} × View) RecordFault
+end_of [] at = Ok (tt, record { left = []; place = at })
+end_of (b ∷ bs) at = Err (Ragged at)
 
-abbrev pub closed_field : Field (Unit {0})
-closed_field v = closed_of v.left v.place
+abbrev pub end_field : Field (Unit {0})
+end_field v = end_of v.left v.place
 
 -- the body of a header record: the version
 abbrev pub version_at : ℕ → ℕ → Field (Unit {0})
-version_at at x v = cond (x == version) (closed_field v) (Err (Mark at))
+version_at at x v = if x == version then end_field v else Err (Mark at)
 
 abbrev pub header_field : Field (Unit {0})
 header_field v = and_then word_field (version_at v.place) v

@@ -1,19 +1,20 @@
 -- Bytes cut into records: length (4 bytes), kind (2 bytes), body; the length counts kind and body.
-use Rattle.std.specs.Prelude.{ℕ, ◌+◌, ◌*◌, cond, List, [], ◌∷◌, length, take, drop, Some, None, Ok, Err, Option, Result, ◌==◌, nat_lt}
+use Rattle.std.specs.Prelude.{ℕ, ◌+◌, ◌*◌, if◌then◌else◌, List, [], ◌∷◌, length, take, drop, Ok, Err, Option, Result, ◌==◌, nat_lt}
+use Rattle.std.specs.List.{find}
+use Rattle.records.specs.Encoding.{kind_number}
 use Rattle.records.specs.declared.faults.RecordFault.{RecordFault}
 use Rattle.records.specs.declared.faults.RecordFault.TheVariants.{Cut, Ragged}
 use Rattle.records.specs.declared.frames.Frame as code
 use Rattle.records.specs.declared.frames.Kind.{Kind}
 use Rattle.records.specs.declared.frames.Kind.TheVariants.{Header, Package, Dependency, Feature, End}
 
--- the kind of a number, where it has one
+-- every kind
+abbrev pub all_kinds : List Kind
+all_kinds = Header ∷ Package ∷ Dependency ∷ Feature ∷ End ∷ []
+
+-- the kind of a number, if it has one
 abbrev pub kind_at : ℕ → Option Kind
-kind_at n =
-    cond (n == 1) (Some Header)
-    (cond (n == 2) (Some Package)
-    (cond (n == 3) (Some Dependency)
-    (cond (n == 4) (Some Feature)
-    (cond (n == 5) (Some End) None))))
+kind_at n = find (λ kind. n == kind_number kind) all_kinds
 
 -- a record's kind, its body, and the bytes after it
 pub record Frame : Type 0 where
@@ -31,7 +32,7 @@ inside (a ∷ []) after = Err (Ragged 0)
 inside (a ∷ b ∷ body) after = Ok (record { kind = a + b * 256; body = body; after = after })
 
 abbrev pub of_length : ℕ → List ℕ → Result Frame RecordFault
-of_length n bs = cond (nat_lt (length bs) n) (Err Cut) (inside (take n bs) (drop n bs))
+of_length n bs = if nat_lt (length bs) n then Err Cut else inside (take n bs) (drop n bs)
 
 -- the record at the front
 abbrev pub frame_of : List ℕ → Result Frame RecordFault

@@ -11,7 +11,7 @@ use text::{FeatureString, Piece};
 
 /// What is left of a record, and the place in the record where it begins, in bytes from its start.
 ///
-/// After a refused field only `closed` says what is left.
+/// After a refused field only `end` says what is left.
 #[derive(Clone, Copy)]
 pub struct Reader<'a> {
     /// the bytes that are left
@@ -23,7 +23,7 @@ pub struct Reader<'a> {
 
 impl<'a> Reader<'a> {
     ghost use Rattle.text.specs.Views.{piece};
-    ghost use Rattle.records.specs.Fields.{view, outcome, outcome_by, bytes_field, byte_field, word_field, string_field, text_field, name_field, switch_field, edge_field, closed_field, void, header_field};
+    ghost use Rattle.records.specs.Fields.{view, outcome, outcome_by, bytes_field, byte_field, word_field, string_field, text_field, name_field, switch_field, edge_field, end_field, void, header_field};
     ghost use Rattle.records.specs.Bodies.{texts, forms, Full, many, list_field, names_field, forms_field, values_field, package_view, package_field, package_name_at, dependency_view, dependency_field, dependency_name_at};
 
     // The next so many bytes.
@@ -107,8 +107,8 @@ impl<'a> Reader<'a> {
     }
 
     /// The record ends here; refused are bytes that are left over. The reader stays as it is.
-    pub fn closed(&mut self) -> Result<(), RecordFault>
-        ensures value { outcome result (view self.new) ≡ closed_field (view self.old) }
+    pub fn end(&mut self) -> Result<(), RecordFault>
+        ensures value { outcome result (view self.new) ≡ end_field (view self.old) }
         ensures still { view self.new ≡ view self.old }
     {
         if self.rest.is_empty() {
@@ -120,7 +120,8 @@ impl<'a> Reader<'a> {
 
     // So many strings that are each read as a `T`.
     fn each<T: FromPiece<'a>>(&mut self, count: u8) -> Result<(), RecordFault>
-        ensures { outcome result (view self.new) ≡ void (many (text_field T.reading) count) (view self.old) }
+        ensures { outcome result (view self.new)
+            ≡ void (many (text_field T.reading) count) (view self.old) }
     {
         for _i in 0..count {
             self.text::<T>()?;
@@ -130,7 +131,8 @@ impl<'a> Reader<'a> {
 
     // A count byte, and that many strings that are each read as a `T`.
     fn list<T: FromPiece<'a>>(&mut self) -> Result<Strings<'a>, RecordFault>
-        ensures value { outcome_by texts result (view self.new) ≡ list_field (text_field T.reading) (view self.old) }
+        ensures value { outcome_by texts result (view self.new)
+            ≡ list_field (text_field T.reading) (view self.old) }
         ensures full { IfOk result Full }
     {
         let count = self.byte()?;
@@ -162,7 +164,7 @@ impl<'a> Reader<'a> {
         ensures full { IfOk result Full }
     {
         let values = self.forms()?;
-        self.closed()?;
+        self.end()?;
         Ok(values)
     }
 
@@ -173,7 +175,7 @@ impl<'a> Reader<'a> {
     {
         let proc_mark = self.switch()?;
         let name = self.name()?;
-        self.closed()?;
+        self.end()?;
         Ok(Package { proc_mark, name })
     }
 
@@ -190,7 +192,7 @@ impl<'a> Reader<'a> {
         let defaults = self.switch()?;
         let name = self.name()?;
         let asks = self.names()?;
-        self.closed()?;
+        self.end()?;
         Ok(Dependency {
             end,
             edge,
@@ -210,6 +212,6 @@ impl<'a> Reader<'a> {
         if version != VERSION {
             return Err(RecordFault::Mark { field });
         }
-        self.closed()
+        self.end()
     }
 }

@@ -33,7 +33,7 @@ pub goes-on : (t : Table) → Laws t → (n : ℕ) (before calls : List Call) (s
     s ≡ (history t n before).state → left ≡ calls_leave s t calls → take (length calls) answers ≡ answers_from s t calls → GoesOn t n before calls left answers
 goes-on t laws n before calls s left answers e state told = record {
   state = state ∙ ap (λ u. calls_leave u t calls) e ∙ sym (fold-append (λ u c. call_leaves u t c) (empty n) before calls);
-  answered = ap (λ l. answers_from (empty n) t before ++ l) (told ∙ ap (λ u. answers_from u t calls) e) ∙ sym (answers-append t (empty n) before calls);
+  all_answers = ap (λ l. answers_from (empty n) t before ++ l) (told ∙ ap (λ u. answers_from u t calls) e) ∙ sym (answers-append t (empty n) before calls);
   law = law-holds t laws n (before ++ calls);
 }
 

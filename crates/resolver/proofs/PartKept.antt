@@ -24,7 +24,7 @@ use Rattle.session.specs.Histories.{Call, history}
 use Rattle.session.specs.SessionLaw.{Active, SessionLaw}
 use Rattle.resolver.specs.Parts.{Agree}
 use Rattle.resolver.specs.PartLaw.{package_of, InPart, target_number, AskedIn, PartKept, OpenedPartLaw}
-use Rattle.resolver.proofs.Simulations.{Decided, told, both, least-simulates}
+use Rattle.resolver.proofs.Simulations.{Decided, decide, both, least-simulates}
 use Rattle.resolver.proofs.PartRules.{counterpart}
 use Rattle.resolver.proofs.PartAgrees.{agree-back, part-back}
 
@@ -72,7 +72,7 @@ module _ (answers : Answers) (lawful : LawfulAnswers answers) (S : ℕ → Bool)
         (λ (l : i < item_count g).
         let (x, has, e) = number-all g i l in
         let q : target_number g x ≡ i = omega (arith, e) in
-        go l x has q (both (told (S (package_of x))) (told (Y (target_number h x)))))
+        go l x has q (both (decide (S (package_of x))) (decide (Y (target_number h x)))))
         (λ (l : item_count g ≤ i). inl (λ m. absurd (omega arith)))
         (cases_lt i (item_count g))
       where

@@ -1,15 +1,16 @@
 -- What holds of the requests, and is kept by each rule, holds of the least set: so two books are compared.
-use Rattle.std.proofs.Common.{◌≡◌, ℕ, Bool, true, false, ◌⊎◌, List, Some, None, Option, refl, inl, inr, IfSome}
+use Rattle.std.proofs.Common.{◌≡◌, ℕ, Bool, true, false, ◌⊎◌, List, refl, inl, inr}
 use Rattle.std.specs.Prelude.{IsTrue, Contains}
+use Rattle.std.proofs.lemmas.Option.{IfSome_then}
 use Rattle.rulebook.specs.Tables.{Table}
 use Rattle.session.specs.Least.{Closed, Least}
 
 abbrev pub Decided : Type 0 → Type 0
 Decided P = P ⊎ (P → ⊥)
 
-pub told : (b : Bool) → Decided (IsTrue b)
-told true = inl refl
-told false = inr (λ (x : false ≡ true). cc)
+pub decide : (b : Bool) → Decided (IsTrue b)
+decide true = inl refl
+decide false = inr (λ (x : false ≡ true). cc)
 
 pub both : {P Q : Type 0} → Decided P → Decided Q → Decided (P × Q)
 both (inl p) (inl q) = inl (p, q)
@@ -29,16 +30,12 @@ module _ {P : Type 0} where
   holds (inl p) q = p
   holds (inr n) q = absurd (cc)
 
-pub some-map : {P Q : ℕ → Type 0} (m : Option ℕ) → ((i : ℕ) → P i → Q i) → IfSome m P → IfSome m Q
-some-map None f h = tt
-some-map (Some i) f h = f i h
-
 -- the least set lies in every set that is decided, holds the requests and is closed
 pub least-within : (t : Table) (xs : List ℕ) (P : ℕ → Type 0) → ((i : ℕ) → Decided (P i)) → ((i : ℕ) → Contains xs i → P i) → Closed t P → (i : ℕ) → Least t xs i → P i
 least-within t xs P decided asked closed i least =
     holds (decided i) (least (λ j. answer (decided j))
     (λ j o. yes (decided j) (asked j o))
-    (λ j r e q x y. yes (decided e.conclusion) (closed j r e q (holds (decided j) x) (some-map e.partner (λ k. holds (decided k)) y))))
+    (λ j r e q x y. yes (decided e.conclusion) (closed j r e q (holds (decided j) x) (IfSome_then e.partner y (λ k. holds (decided k))))))
 
 -- item j of u's least set answers for item i of t's: for each set Y, P Y holds of the requests of t if Y holds those of
 -- u, each rule of t keeps it if each rule of u keeps Y, and of i it says that j is in Y

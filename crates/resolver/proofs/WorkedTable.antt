@@ -19,38 +19,38 @@ worked-examples = record {
   parts = part-examples;
   items = refl;
   rows = refl;
-  accepted = refl;
-  settles = refl;
+  request_accepted = refl;
+  settle_11 = refl;
   trail = refl;
-  soon = refl;
-  active = refl;
-  nearly = refl;
+  settle_3 = refl;
+  active_after_3 = refl;
+  settle_10 = refl;
   answers = refl;
-  whole = refl;
-  given = refl;
+  trail_in_parts = refl;
+  accepted = refl;
   steps = refl;
   entries = refl;
-  done = refl;
+  settled = refl;
   because = by_two {row = 5} refl refl (lit< tt) (lit< tt) refl;
-  refused = refl;
-  again = refl;
-  beyond = refl;
+  refused_request = refl;
+  request_after = refl;
+  request_beyond = refl;
   number = refl;
-  last = refl;
+  request_last = refl;
 }
 
 -- the states after the request, and after 3, 7 and 1 steps more
-pub worked-states : (t : Table) (start asked soon nearly end : State) → t ≡ example_table → start ≡ new_session →
-    asked ≡ request_leaves start example_items → soon ≡ settle_leaves asked t 3 → nearly ≡ settle_leaves soon t 7 → end ≡ settle_leaves nearly t 1 →
-    (asked ≡ example_asked)
-    × (soon ≡ (settle_run example_asked example_table 3).state)
-    × (nearly ≡ (settle_run example_asked example_table 10).state)
+pub worked-states : (t : Table) (start requested after_3 after_10 end : State) → t ≡ example_table → start ≡ new_session →
+    requested ≡ request_leaves start example_items → after_3 ≡ settle_leaves requested t 3 → after_10 ≡ settle_leaves after_3 t 7 → end ≡ settle_leaves after_10 t 1 →
+    (requested ≡ example_asked)
+    × (after_3 ≡ (settle_run example_asked example_table 3).state)
+    × (after_10 ≡ (settle_run example_asked example_table 10).state)
     × (end ≡ (settle_run example_asked example_table 11).state)
-worked-states t start asked soon nearly end e s a b d f =
-    let p : asked ≡ example_asked = a ∙ ap (λ u. request_leaves u example_items) s in
-    let q : soon ≡ (settle_run example_asked example_table 3).state = b ∙ ap (λ v. settle_leaves asked v 3) e ∙ ap (λ u. settle_leaves u example_table 3) p in
-    let r : nearly ≡ (settle_run example_asked example_table 10).state = d ∙ ap (λ v. settle_leaves soon v 7) e ∙ ap (λ u. settle_leaves u example_table 7) q in
-    let z : end ≡ (settle_run example_asked example_table 11).state = f ∙ ap (λ v. settle_leaves nearly v 1) e ∙ ap (λ u. settle_leaves u example_table 1) r in
+worked-states t start requested after_3 after_10 end e s a b d f =
+    let p : requested ≡ example_asked = a ∙ ap (λ u. request_leaves u example_items) s in
+    let q : after_3 ≡ (settle_run example_asked example_table 3).state = b ∙ ap (λ v. settle_leaves requested v 3) e ∙ ap (λ u. settle_leaves u example_table 3) p in
+    let r : after_10 ≡ (settle_run example_asked example_table 10).state = d ∙ ap (λ v. settle_leaves after_3 v 7) e ∙ ap (λ u. settle_leaves u example_table 7) q in
+    let z : end ≡ (settle_run example_asked example_table 11).state = f ∙ ap (λ v. settle_leaves after_10 v 1) e ∙ ap (λ u. settle_leaves u example_table 1) r in
     (p, q, r, z)
 
 -- an answer of settle by the table of the example, in a state that is known

@@ -36,5 +36,5 @@ run_calls_answers s t calls places =
 -- answer follows the answers from before, and the law holds of all of them.
 pub record GoesOn (t : Table) (n : ℕ) (before calls : List Call) (left : State) (answers : List Answer) : Type 0 where
   pub state : left ≡ (history t n (before ++ calls)).state
-  pub answered : answers_from (empty n) t before ++ take (length calls) answers ≡ answers_from (empty n) t (before ++ calls)
+  pub all_answers : answers_from (empty n) t before ++ take (length calls) answers ≡ answers_from (empty n) t (before ++ calls)
   pub law : Law t n (before ++ calls)

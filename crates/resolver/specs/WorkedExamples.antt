@@ -82,25 +82,25 @@ pub record WorkedExamples : Type 0 where
   pub items : example_table.items ≡ 20
   pub rows : example_table.rows ≡ 10
   -- 11 steps leave nothing pending; 3 do not, and 10 do not
-  pub accepted : request_answer new_session example_items ≡ Ok tt
-  pub settles : settle_answer example_asked example_table 11 ≡ Ok (Settled 11)
+  pub request_accepted : request_answer new_session example_items ≡ Ok tt
+  pub settle_11 : settle_answer example_asked example_table 11 ≡ Ok (Settled 11)
   pub trail : (settle_run example_asked example_table 11).state.trail ≡ example_trail
-  pub soon : settle_answer example_asked example_table 3 ≡ Ok Pending
-  pub active : active_count (settle_run example_asked example_table 3).state.trail 20 ≡ 5
-  pub nearly : settle_answer example_asked example_table 10 ≡ Ok Pending
+  pub settle_3 : settle_answer example_asked example_table 3 ≡ Ok Pending
+  pub active_after_3 : active_count (settle_run example_asked example_table 3).state.trail 20 ≡ 5
+  pub settle_10 : settle_answer example_asked example_table 10 ≡ Ok Pending
   -- so too in parts
   pub answers : answers_from new_session example_table example_calls ≡ example_answers
-  pub whole : example_history.state.trail ≡ example_trail
-  pub given : example_history.accepted ≡ example_items
+  pub trail_in_parts : example_history.state.trail ≡ example_trail
+  pub accepted : example_history.accepted ≡ example_items
   pub steps : example_history.steps ≡ 11
   pub entries : watch_entries example_table example_history.state ≡ 11
-  pub done : example_history.settled ≡ true
+  pub settled : example_history.settled ≡ true
   -- item 8 has trail number 6 since item 7, with trail number 3, has an entry with the partner 3, which has trail number 5
   pub because : Because example_table example_trail example_items 6 (two_causes 8 3 5)
   -- a request that is refused gives nothing; one that is accepted, also of no items, is to be settled again
-  pub refused : (history example_table 20 (request (0 ∷ 20 ∷ []) ∷ [])).accepted ≡ []
-  pub again : (history example_table 20 (example_calls ++ request [] ∷ [])).settled ≡ false
+  pub refused_request : (history example_table 20 (request (0 ∷ 20 ∷ []) ∷ [])).accepted ≡ []
+  pub request_after : (history example_table 20 (example_calls ++ request [] ∷ [])).settled ≡ false
   -- a request beyond the items is refused, by number 10, one of the last item is not
-  pub beyond : request_answer new_session (20 ∷ []) ≡ Err Item
+  pub request_beyond : request_answer new_session (20 ∷ []) ≡ Err Item
   pub number : session_refusal Item ≡ about_no_record 10
-  pub last : request_answer new_session (19 ∷ []) ≡ Ok tt
+  pub request_last : request_answer new_session (19 ∷ []) ≡ Ok tt

@@ -27,28 +27,88 @@ const ITEMS: u32 = 20;
 // What the calls of the example answer: a request, settling within 3, 7 and 1 steps, and how many items are active after
 // the first 3.
 #[derive(Clone, Copy, PartialEq, Eq)]
-struct Course {
-    requested: Result<(), SessionFault>,
-    soon: Result<Outcome, SessionFault>,
-    count: u32,
-    nearly: Result<Outcome, SessionFault>,
-    settled: Result<Outcome, SessionFault>,
+struct CallAnswers {
+    request: Result<(), SessionFault>,
+    settle_3: Result<Outcome, SessionFault>,
+    active_count: u32,
+    settle_7: Result<Outcome, SessionFault>,
+    settle_1: Result<Outcome, SessionFault>,
 }
 
-// What the calls of the example are to answer.
-const COURSE: Course = Course {
-    requested: Ok(()),
-    soon: Ok(Outcome::Pending),
-    count: 5,
-    nearly: Ok(Outcome::Pending),
-    settled: Ok(Outcome::Settled(1)),
+// What they are to answer.
+const CALL_ANSWERS: CallAnswers = CallAnswers {
+    request: Ok(()),
+    settle_3: Ok(Outcome::Pending),
+    active_count: 5,
+    settle_7: Ok(Outcome::Pending),
+    settle_1: Ok(Outcome::Settled(1)),
 };
 
-// What made an item active: these trail numbers.
-fn reason(first: Option<u32>, second: Option<u32>) -> Reason
-    ensures { result ≡ record { first = first; second = second } }
+/// Runs the worked examples of all layers, each on what the layer below it left. True if all are answered as they should
+/// be.
+pub fn worked_examples() -> bool
+    ensures answer { result ≡ true }
+    ensures table { WorkedExamples }
 {
-    Reason { first, second }
+    let mut words = [0; 54];
+    let opened = opens(&mut words);
+    let book = GraphBook::new(&words[..], &HostSplit);
+    text::worked_examples()
+        && opened
+        && book.items() == ITEMS
+        && book.rows() == OPENED.rows
+        && answers_calls(&book)
+        && refuses_only_items_beyond()
+}
+
+// Whether opening the example file into these words is answered so.
+fn opens(words: &mut [u32]) -> bool
+    requires { length words.old ≡ 54 }
+    ensures answer { result ≡ true }
+    ensures words { words.new ≡ example_words }
+{
+    let file = EXAMPLE;
+    open_graph(&file, words) == Ok(OPENED)
+}
+
+// Whether the calls on a new session are answered so, and afterwards the questions.
+fn answers_calls<B: Rulebook>(book: &B) -> bool
+    requires { B.Rulebook.table book.now ≡ example_table }
+    ensures { result ≡ true }
+{
+    let mut places = [UNUSED; ITEMS as usize];
+    let mut marks = [None; ITEMS as usize];
+    let mut session = Session::new(ITEMS, &mut places, &mut marks);
+    make_calls(book, &mut session) == CALL_ANSWERS
+        && answers_active(&session)
+        && answers_reason(&session)
+}
+
+// Makes the calls of the example on a new session.
+fn make_calls<B: Rulebook>(book: &B, session: &mut Session<'_>) -> CallAnswers
+    requires book { B.Rulebook.table book.now ≡ example_table }
+    requires session { state session.old ≡ new_session }
+    ensures answers { result ≡ record {
+      request = Ok tt;
+      settle_3 = Ok Pending;
+      active_count = 5;
+      settle_7 = Ok Pending;
+      settle_1 = Ok (Settled 1);
+    } }
+    ensures state { state session.new ≡ (settle_run example_asked example_table 11).state }
+{
+    let request = session.request(&[0, 6]);
+    let settle_3 = session.settle(book, 3);
+    let active_count = active_count(session);
+    let settle_7 = session.settle(book, 7);
+    let settle_1 = session.settle(book, 1);
+    CallAnswers {
+        request,
+        settle_3,
+        active_count,
+        settle_7,
+        settle_1,
+    }
 }
 
 // How many items are active.
@@ -65,29 +125,8 @@ fn active_count(session: &Session<'_>) -> u32
     count
 }
 
-// Makes the calls of the example on a new session.
-fn run<B: Rulebook>(book: &B, session: &mut Session<'_>) -> Course
-    requires book { B.Rulebook.table book.now ≡ example_table }
-    requires session { state session.old ≡ new_session }
-    ensures answers { result ≡ record { requested = Ok tt; soon = Ok Pending; count = 5; nearly = Ok Pending; settled = Ok (Settled 1) } }
-    ensures state { state session.new ≡ (settle_run example_asked example_table 11).state }
-{
-    let requested = session.request(&[0, 6]);
-    let soon = session.settle(book, 3);
-    let count = active_count(session);
-    let nearly = session.settle(book, 7);
-    let settled = session.settle(book, 1);
-    Course {
-        requested,
-        soon,
-        count,
-        nearly,
-        settled,
-    }
-}
-
-// Whether the settled session tells what is active.
-fn tells_active(session: &Session<'_>) -> bool
+// Whether the settled session answers what is active.
+fn answers_active(session: &Session<'_>) -> bool
     requires { state session.now ≡ (settle_run example_asked example_table 11).state }
     ensures { result ≡ true }
 {
@@ -96,8 +135,8 @@ fn tells_active(session: &Session<'_>) -> bool
         && session.active(ITEMS) == Err(SessionFault::Item)
 }
 
-// Whether it tells what made items active: nothing, one item, or two.
-fn tells_reasons(session: &Session<'_>) -> bool
+// Whether it answers what made items active: nothing, one item, or two.
+fn answers_reason(session: &Session<'_>) -> bool
     requires { state session.now ≡ (settle_run example_asked example_table 11).state }
     ensures { result ≡ true }
 {
@@ -107,19 +146,15 @@ fn tells_reasons(session: &Session<'_>) -> bool
         && session.reason(2) == Err(SessionFault::Inactive)
 }
 
-// Whether the calls on a new session are answered so, and afterwards the questions.
-fn settles<B: Rulebook>(book: &B) -> bool
-    requires { B.Rulebook.table book.now ≡ example_table }
-    ensures { result ≡ true }
+// The reason with these trail numbers.
+fn reason(first: Option<u32>, second: Option<u32>) -> Reason
+    ensures { result ≡ record { first = first; second = second } }
 {
-    let mut places = [UNUSED; ITEMS as usize];
-    let mut marks = [None; ITEMS as usize];
-    let mut session = Session::new(ITEMS, &mut places, &mut marks);
-    run(book, &mut session) == COURSE && tells_active(&session) && tells_reasons(&session)
+    Reason { first, second }
 }
 
 // Whether a new session refuses an item beyond its own, by number 10, and takes the last one.
-fn takes_only_its_own() -> bool
+fn refuses_only_items_beyond() -> bool
     ensures { result ≡ true }
 {
     let mut places = [UNUSED; ITEMS as usize];
@@ -128,31 +163,4 @@ fn takes_only_its_own() -> bool
     session.request(&[ITEMS]) == Err(SessionFault::Item)
         && Refusal::from(SessionFault::Item).number == 10
         && session.request(&[19]) == Ok(())
-}
-
-// Whether opening the example file into these words is answered so.
-fn opens(words: &mut [u32]) -> bool
-    requires { length words.old ≡ 54 }
-    ensures answer { result ≡ true }
-    ensures words { words.new ≡ example_words }
-{
-    let file = EXAMPLE;
-    open_graph(&file, words) == Ok(OPENED)
-}
-
-// Runs the worked examples of all layers, each on what the layer below it left, and says whether all are answered as the
-// table has them.
-pub fn worked_examples() -> bool
-    ensures answer { result ≡ true }
-    ensures table { WorkedExamples }
-{
-    let mut words = [0; 54];
-    let opened = opens(&mut words);
-    let book = GraphBook::new(&words[..], &HostSplit);
-    text::worked_examples()
-        && opened
-        && book.items() == ITEMS
-        && book.rows() == OPENED.rows
-        && settles(&book)
-        && takes_only_its_own()
 }

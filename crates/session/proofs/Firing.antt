@@ -2,11 +2,12 @@
 use Rattle.std.proofs.Common.{◌≡◌, ℕ, ◌<◌, ◌⊎◌, take, drop, Some, None, Option, ap, ◌∙◌, subst, ⊎_elim, IfSome}
 use Rattle.std.specs.Prelude.{IsTrue}
 use Rattle.std.proofs.lemmas.List.{take-append-drop}
+use Rattle.std.proofs.lemmas.Option.{IfSome_then}
 use Rattle.rulebook.specs.declared.entries.WatchEntry.{WatchEntry}
 use Rattle.rulebook.specs.Tables.{Table, Laws}
 use Rattle.session.specs.Trails.{active}
 use Rattle.session.specs.States.{State}
-use Rattle.session.proofs.TrailFacts.{Active, Head, active-left, active-right, head-active, some_map}
+use Rattle.session.proofs.TrailFacts.{Active, Head, active-left, active-right, head-active}
 
 -- row r of item i is worked: the item is before the worked place, or at it and the row is before the worked row
 abbrev pub Worked : State → ℕ → ℕ → Type 0
@@ -43,5 +44,5 @@ module _ (table : Table) (laws : Laws table) (s t : State) (n : ℕ) (Fresh : �
   pub fires-all : Fired table t
   fires-all i r e q w a = ⊎_elim
       (λ (v : Worked s r i). fires-old i r e.partner e.conclusion q v a)
-      (λ (z : (n ≡ i) × Fresh r). fires r e (ap (λ m. table.entry m r) z.0 ∙ q) z.1 (some_map (Worked t r) (Active s) (was-active r) e.partner a))
+      (λ (z : (n ≡ i) × Fresh r). fires r e (ap (λ m. table.entry m r) z.0 ∙ q) z.1 (IfSome_then e.partner a (was-active r)))
       (news r i w)

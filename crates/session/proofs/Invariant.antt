@@ -3,15 +3,16 @@ use Rattle.std.proofs.Common.{◌≡◌, ℕ, ◌+◌, ◌<◌, ◌≤◌, false
 use Rattle.std.specs.Prelude.{IsTrue, Contains}
 use Rattle.std.proofs.lemmas.Bool.{cases_lt}
 use Rattle.std.proofs.lemmas.List.{length-drop, length-append, take-append-le, drop-append-le}
+use Rattle.std.proofs.lemmas.Option.{IfSome_then}
 use Rattle.rulebook.specs.declared.entries.WatchEntry.{WatchEntry}
 use Rattle.rulebook.specs.declared.entries.RowEntry.{RowEntry}
 use Rattle.rulebook.specs.Tables.{Table, Laws, seek}
 use Rattle.session.specs.declared.trail.TrailRecord.{TrailRecord}
 use Rattle.session.specs.Trails.{active}
-use Rattle.session.specs.States.{State, with_trail, with_position}
+use Rattle.session.specs.States.{State, with_trail, with_position, move_on}
 use Rattle.session.specs.SessionLaw.{sum_active}
 use Rattle.session.proofs.Seeks.{Bare, First, seek-none, seek-some}
-use Rattle.session.proofs.TrailFacts.{Active, At, Head, active-left, active-cases, active-one, take_next, at-active, at-inside, some_map}
+use Rattle.session.proofs.TrailFacts.{Active, At, Head, active-left, active-cases, active-one, take_next, at-active, at-inside}
 use Rattle.session.proofs.ActiveSums.{total, total-push, total-length, sum_active-push, sum_active-most, sum_active_less}
 use Rattle.session.proofs.EntryCounts.{entries_before, before-moved, before-taken, before-push}
 use Rattle.session.proofs.Derivations.{Derived}
@@ -50,13 +51,13 @@ head_to t x xs d i h = subst (λ l. Head l i) (sym d) h
 
 module _ (table : Table) (laws : Laws table) (asked : List ℕ) (k : ℕ) (s : State) where
   -- the worked place moves to the next trail item
-  pub moved-core : (x : TrailRecord) (xs : List TrailRecord) → At s x xs → seek table x.item s.row ≡ None → Core table asked k s → Core table asked k (with_position s (s.position + 1) 0)
+  pub moved-core : (x : TrailRecord) (xs : List TrailRecord) → At s x xs → seek table x.item s.row ≡ None → Core table asked k s → Core table asked k (move_on s)
   moved-core x xs d e c = record {
     inside = let h = at-inside s x xs d in omega arith;
     fresh = λ _. refl;
     low = omega arith;
     sound = c.sound;
-    fired = fires-all table laws s (with_position s (s.position + 1) 0) x.item (λ r. s.row ≤ r) (λ i h. h) news (at-active s x xs d)
+    fired = fires-all table laws s (move_on s) x.item (λ r. s.row ≤ r) (λ i h. h) news (at-active s x xs d)
         (λ r y q f a. absurd (no_entry _ y (bare r f (laws.within x.item r y q).1) q))
         c.fired;
     spent = c.spent ∙ sym (ap (λ p. entries_before table s.trail p 0) (add-one s.position) ∙ before-moved table s.trail s.position s.row x xs d c.low bare);
@@ -71,7 +72,7 @@ module _ (table : Table) (laws : Laws table) (asked : List ℕ) (k : ℕ) (s : S
           (active-cases (take s.position s.trail) (x ∷ []) i
           (subst (λ l. IsTrue (active l i)) (ap (λ j. take j s.trail) (add-one s.position) ∙ take_next s.position s.trail x xs d) h))
 
-      news : (r i : ℕ) → Worked (with_position s (s.position + 1) 0) r i → Worked s r i ⊎ ((x.item ≡ i) × (s.row ≤ r))
+      news : (r i : ℕ) → Worked (move_on s) r i → Worked s r i ⊎ ((x.item ≡ i) × (s.row ≤ r))
       news r i (inr h) = absurd (omega (arith, h.1))
       news r i (inl h) = ⊎_elim
           (λ v. inl (inl v))
@@ -115,7 +116,7 @@ module _ (table : Table) (laws : Laws table) (asked : List ℕ) (k : ℕ) (s : S
     low = c.low;
     sound = λ i h. ⊎_elim (c.sound i) (λ v. subst (Derived table asked) (active-one x i v) dx) (active-cases s.trail (x ∷ []) i h);
     fired = λ i r e q w a. active-left s.trail (x ∷ []) e.conclusion
-        (c.fired i r e q (was r i w) (some_map (Worked (with_trail s (s.trail ++ x ∷ [])) r) (Worked s r) (was r) e.partner a));
+        (c.fired i r e q (was r i w) (IfSome_then e.partner a (was r)));
     spent = c.spent ∙ sym (before-push table s.trail s.position s.row x c.inside c.fresh);
     whole = λ w. sum_active-push w s.trail x s.items lt off ∙ ap (λ j. j + w x.item) (c.whole w) ∙ sym (total-push w s.trail x);
   }

@@ -5,17 +5,18 @@ use Rattle.std.specs.List.{fold}
 use Rattle.std.proofs.lemmas.Bool.{and_parts}
 use Rattle.std.proofs.lemmas.List.{drop-append-le}
 use Rattle.std.proofs.lemmas.List.Elements.{Contains-append_left, Contains-push, Contains-push_cases}
+use Rattle.std.proofs.lemmas.Option.{IfSome_then}
 use Rattle.rulebook.specs.declared.entries.RowEntry.{RowEntry}
 use Rattle.rulebook.specs.Tables.{Table, Laws, seek}
 use Rattle.session.specs.declared.trail.TrailRecord.{TrailRecord}
 use Rattle.session.specs.Trails.{request_record, conclusion_record, active, grants, cause_of}
-use Rattle.session.specs.States.{State, with_trail, with_position, request_one, request_all, all_below, take_entry, outcome_of, settle_run, fits}
+use Rattle.session.specs.States.{State, with_trail, with_position, move_on, request_one, request_all, all_below, take_entry, outcome_of, settle_run, fits}
 use Rattle.session.specs.Histories.{Call, request, settle, active as active_call, reason, History, history}
 use Rattle.session.proofs.Pasts.{begun, reported, after_request, after_settle, called, past-history}
 use Rattle.session.proofs.Seeks.{seek-some}
-use Rattle.session.proofs.TrailFacts.{Active, At, active-left, active-right, active-head, at-active, some_map}
+use Rattle.session.proofs.TrailFacts.{Active, At, active-left, active-right, active-head, at-active}
 use Rattle.session.proofs.ActiveSums.{sum_active-none}
-use Rattle.session.proofs.Derivations.{Derived, given, derived_by, derived_mono}
+use Rattle.session.proofs.Derivations.{given, derived_by, derived_mono}
 use Rattle.session.proofs.SettleKeeps.{Ended, settled-keeps, reported-steps}
 use Rattle.session.proofs.Invariant.{Core, Invariant, moved-core, row-core, push-core}
 
@@ -50,7 +51,7 @@ module _ (table : Table) (laws : Laws table) where
   Settles asked k s = Invariant table asked k s × (table.items ≡ s.items)
 
   moved-keeps : (asked : List ℕ) (k : ℕ) (s : State) (x : TrailRecord) (xs : List TrailRecord) → At s x xs → seek table x.item s.row ≡ None →
-      Settles asked k s → Settles asked k (with_position s (s.position + 1) 0)
+      Settles asked k s → Settles asked k (move_on s)
   moved-keeps asked k s x xs d e v = (record { core = moved-core table laws asked k s x xs d e v.0.core; held = v.0.held }, v.1)
 
   taken-keeps : (asked : List ℕ) (k : ℕ) (s : State) (x : TrailRecord) (xs : List TrailRecord) (f : RowEntry) → At s x xs → seek table x.item s.row ≡ Some f →
@@ -70,7 +71,7 @@ module _ (table : Table) (laws : Laws table) where
           let first = seek-some table x.item s.row f e in
           let derived = derived_by table asked x.item f.row f.entry.partner f.entry.conclusion first.here
           (core.sound x.item (at-active s x xs d))
-          (some_map (Active s) (Derived table asked) core.sound f.entry.partner (granted-some s f.entry.partner t.0)) in
+          (IfSome_then f.entry.partner (granted-some s f.entry.partner t.0) core.sound) in
           let low : f.entry.conclusion < s.items = subst (λ m. f.entry.conclusion < m) v.1 (laws.below x.item f.row f.entry first.here).0 in
           let pushed = push-core table laws asked k s new derived t.1 low core in
           let ahead = drop-append-le s.position s.trail (new ∷ []) core.inside ∙ ap (λ l. l ++ new ∷ []) d in (

@@ -3,7 +3,7 @@ use Rattle.std.proofs.Common.{◌≡◌, ℕ, zero, suc, ◌+◌, ◌*◌, ◌<�
 use Rattle.std.specs.Prelude.{IsTrue}
 use Rattle.std.specs.List.{slice_get}
 use Rattle.std.proofs.lemmas.List.{take-append-drop}
-use Rattle.std.proofs.lemmas.Option.{none-some, same_Some, get_or_from_slice_get, slice_get_within}
+use Rattle.std.proofs.lemmas.Option.{IfSome_then, none-some, same_Some, get_or_from_slice_get, slice_get_within}
 use Rattle.rulebook.specs.Tables.{Table, Laws}
 use Rattle.session.specs.declared.calls.Answer.{Answer}
 use Rattle.session.specs.declared.calls.Answer.TheVariants as answer
@@ -15,13 +15,12 @@ use Rattle.session.specs.Least.{Closed}
 use Rattle.session.specs.Histories.{Call, request, settle, active as active_call, reason, call_answer, call_leaves, calls_leave, answers_from, History, history}
 use Rattle.session.specs.SessionLaw.{entries, sum_active, watch_entries, Counted, SessionLaw}
 use Rattle.session.proofs.Seeks.{seek-some}
-use Rattle.session.proofs.TrailFacts.{Active, some_map}
+use Rattle.session.proofs.TrailFacts.{Active}
 use Rattle.session.proofs.ActiveSums.{total}
 use Rattle.session.proofs.EntryCounts.{before_all, before_less, before_most, watched_most}
 use Rattle.session.proofs.Derivations.{derived-least}
 use Rattle.session.proofs.Pasts.{after_settle, called, history-push}
 use Rattle.session.proofs.SettleKeeps.{Ended}
-use Rattle.session.proofs.Firing.{Worked}
 use Rattle.session.proofs.Invariant.{Invariant}
 use Rattle.session.proofs.Kept.{Kept, settled-ends, history-kept}
 use Rattle.session.proofs.Reasons.{history-reasons}
@@ -29,7 +28,7 @@ use Rattle.session.proofs.Reasons.{history-reasons}
 -- while a session is settled, its active items are closed by the rules
 pub settled-closed : (table : Table) (n : ℕ) (h : History) → Kept table n h → IsTrue h.settled → Closed table (Active h.state)
 settled-closed table n h kept z i r e q a b =
-    kept.invariant.core.fired i r e q (inl (all i a)) (some_map (Active h.state) (Worked h.state r) (λ j m. inl (all j m)) e.partner b)
+    kept.invariant.core.fired i r e q (inl (all i a)) (IfSome_then e.partner b (λ j m. inl (all j m)))
   where
     all : (j : ℕ) → Active h.state j → IsTrue (active (take h.state.position h.state.trail) j)
     all j m =

@@ -5,7 +5,7 @@ use Rattle.std.proofs.lemmas.Option.{none-some, same_Some}
 use Rattle.rulebook.specs.declared.entries.RowEntry.{RowEntry}
 use Rattle.rulebook.specs.Tables.{Table, seek}
 use Rattle.session.specs.declared.trail.TrailRecord.{TrailRecord}
-use Rattle.session.specs.States.{State, with_position, worked_item, item_of, take_entry, rest, or_next, next_among, next, Run, one_step_more, halt, step_once, settle_run}
+use Rattle.session.specs.States.{State, move_on, worked_item, item_of, take_entry, rest, or_next, next_among, next, Run, one_step_more, halt, step_once, settle_run}
 
 -- k steps before a run
 abbrev pub after : ℕ → Run → Run
@@ -46,21 +46,21 @@ module _ (t : Table) where
 
     module _ (i : ℕ) (item : worked_item s ≡ Some i) where
       -- what seek answers of the worked item tells what is next
-      next-by : (o : Option RowEntry) → seek t i s.row ≡ o → next s t ≡ or_next o s (next (with_position s (s.position + 1) 0) t)
+      next-by : (o : Option RowEntry) → seek t i s.row ≡ o → next s t ≡ or_next o s (next (move_on s) t)
       next-by o e = go ahead refl item
         where
-          go : (rs : List TrailRecord) → ahead ≡ rs → item_of ahead ≡ Some i → next s t ≡ or_next o s (next (with_position s (s.position + 1) 0) t)
+          go : (rs : List TrailRecord) → ahead ≡ rs → item_of ahead ≡ Some i → next s t ≡ or_next o s (next (move_on s) t)
           go [] q h = absurd (none-some i (ap item_of (sym q) ∙ h))
           go (r ∷ rs) q h =
               let same : r.item ≡ i = same_Some r.item i (ap item_of (sym q) ∙ h) in
               let on : rs ≡ drop (s.position + 1) s.trail = sym (drop-one s.position s.trail r rs q) in
               ap (λ rs. next_among s t rs) q
-              ∙ ap (λ x. or_next (seek t x s.row) s (next_among (with_position s (s.position + 1) 0) t rs)) same
-              ∙ ap (λ p. or_next p s (next_among (with_position s (s.position + 1) 0) t rs)) e
-              ∙ ap (λ xs. or_next o s (next_among (with_position s (s.position + 1) 0) t xs)) on
+              ∙ ap (λ x. or_next (seek t x s.row) s (next_among (move_on s) t rs)) same
+              ∙ ap (λ p. or_next p s (next_among (move_on s) t rs)) e
+              ∙ ap (λ xs. or_next o s (next_among (move_on s) t xs)) on
 
       -- where it answers none, the next trail item is worked
-      on-move : seek t i s.row ≡ None → (b : ℕ) → settle_run s t b ≡ settle_run (with_position s (s.position + 1) 0) t b
+      on-move : seek t i s.row ≡ None → (b : ℕ) → settle_run s t b ≡ settle_run (move_on s) t b
       on-move e zero = ap halt (next-by None e)
       on-move e (suc b) = ap (step_once (λ u. settle_run u t b)) (next-by None e)
 
@@ -88,7 +88,7 @@ module _ (t : Table) where
         leads.1 ∙ ap (after k) (at-rest u e (budget - k)) ∙ (λ i. record { state = u; steps = z i; pending = false })
 
     module _ (i : ℕ) (item : worked_item u ≡ Some i) where
-      pub lead-move : seek t i u.row ≡ None → Leads budget s k (with_position u (u.position + 1) 0)
+      pub lead-move : seek t i u.row ≡ None → Leads budget s k (move_on u)
       lead-move e = (leads.0, leads.1 ∙ ap (after k) (on-move u i item e (budget - k)))
 
       module _ (f : RowEntry) (e : seek t i u.row ≡ Some f) where

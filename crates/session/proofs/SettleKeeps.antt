@@ -3,7 +3,7 @@ use Rattle.std.proofs.Common.{◌≡◌, ℕ, zero, suc, ◌+◌, Bool, true, fa
 use Rattle.rulebook.specs.declared.entries.RowEntry.{RowEntry}
 use Rattle.rulebook.specs.Tables.{Table, seek}
 use Rattle.session.specs.declared.trail.TrailRecord.{TrailRecord}
-use Rattle.session.specs.States.{State, with_position, take_entry, Next, rest, due, or_next, next_among, next, Run, halt, step_once, settle_run, outcome_of}
+use Rattle.session.specs.States.{State, move_on, take_entry, Next, rest, due, or_next, next_among, next, Run, halt, step_once, settle_run, outcome_of}
 use Rattle.session.proofs.Pasts.{reported}
 use Rattle.session.proofs.TrailFacts.{At, drop_next}
 
@@ -22,15 +22,15 @@ Ended table s true = (f : RowEntry) × Due table s f
 
 -- P says of a state what holds of it after so many steps
 module _ (table : Table) (P : ℕ → State → Type 0)
-    (moves : (k : ℕ) (s : State) (x : TrailRecord) (xs : List TrailRecord) → At s x xs → seek table x.item s.row ≡ None → P k s → P k (with_position s (s.position + 1) 0))
+    (moves : (k : ℕ) (s : State) (x : TrailRecord) (xs : List TrailRecord) → At s x xs → seek table x.item s.row ≡ None → P k s → P k (move_on s))
     (takes : (k : ℕ) (s : State) (x : TrailRecord) (xs : List TrailRecord) (f : RowEntry) → At s x xs → seek table x.item s.row ≡ Some f → P k s → P (k + 1) (take_entry s f)) where
   next-keeps : (k : ℕ) (t : List TrailRecord) (s : State) → drop s.position s.trail ≡ t → P k s → Reached table (P k) (next_among s table t)
   next-keeps k [] s d p = (p, d)
-  next-keeps k (x ∷ t) s d p = go (seek table x.item s.row) refl (λ e. next-keeps k t (with_position s (s.position + 1) 0) (ap (λ j. drop j s.trail) (add-one s.position) ∙ drop_next s.position s.trail x t d) (moves k s x t d e p))
+  next-keeps k (x ∷ t) s d p = go (seek table x.item s.row) refl (λ e. next-keeps k t (move_on s) (ap (λ j. drop j s.trail) (add-one s.position) ∙ drop_next s.position s.trail x t d) (moves k s x t d e p))
     where
       go : (o : Option RowEntry) → seek table x.item s.row ≡ o →
-          (seek table x.item s.row ≡ None → Reached table (P k) (next_among (with_position s (s.position + 1) 0) table t)) →
-          Reached table (P k) (or_next o s (next_among (with_position s (s.position + 1) 0) table t))
+          (seek table x.item s.row ≡ None → Reached table (P k) (next_among (move_on s) table t)) →
+          Reached table (P k) (or_next o s (next_among (move_on s) table t))
       go None e later = later e
       go (Some f) e later = (p, (x, t, d, e))
 

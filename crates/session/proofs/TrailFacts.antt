@@ -1,5 +1,5 @@
 -- Active items of a trail and of its parts, and what stands at a place of it.
-use Rattle.std.proofs.Common.{◌≡◌, ℕ, zero, suc, ◌<◌, ◌||◌, eqb, ◌⊎◌, List, [], ◌∷◌, ◌++◌, length, take, drop, Some, None, Option, sym, refl, ap, ◌∙◌, subst, arith, length-drop, eqb-true, eq-eqb, IfSome}
+use Rattle.std.proofs.Common.{◌≡◌, ℕ, zero, suc, ◌<◌, ◌||◌, eqb, ◌⊎◌, List, [], ◌∷◌, ◌++◌, length, take, drop, sym, refl, ap, ◌∙◌, subst, arith, length-drop, eqb-true, eq-eqb}
 use Rattle.std.specs.Prelude.{IsTrue}
 use Rattle.std.proofs.Math.Bool.{or-false}
 use Rattle.std.proofs.lemmas.Bool.{or_cases, or_left, or_right}
@@ -66,8 +66,3 @@ at-active s x xs d = subst (λ l. IsTrue (active l x.item)) (take-append-drop s.
 
 pub at-inside : (s : State) (x : TrailRecord) (xs : List TrailRecord) → At s x xs → s.position < length s.trail
 at-inside s x xs d = omega (arith, length-drop s.position s.trail, ap length d)
-
--- what holds of all X holds of a partner among them
-pub some_map : (X Y : ℕ → Type 0) → ((i : ℕ) → X i → Y i) → (b : Option ℕ) → IfSome b X → IfSome b Y
-some_map X Y h None a = tt
-some_map X Y h (Some b) a = h b a

@@ -80,19 +80,23 @@ item_of (r ∷ rs) = Some r.item
 abbrev pub worked_item : State → Option ℕ
 worked_item s = item_of (drop s.position s.trail)
 
+-- the worked place moves to the next trail item, at row 0
+abbrev pub move_on : State → State
+move_on s = with_position s (s.position + 1) 0
+
 -- what comes next: no trail item is left, or an entry is due
 pub data Next : Type 0 where
   rest : State → Next
   due : State → RowEntry → Next
 
--- where seek answers none, the worked place moves to the next trail item
+-- where seek answers none, the worked place moves on
 abbrev pub or_next : Option RowEntry → State → Next → Next
 or_next None s later = later
 or_next (Some f) s later = due s f
 
 abbrev pub next_among : State → Table → List TrailRecord → Next
 next_among s t [] = rest s
-next_among s t (r ∷ rs) = or_next (seek t r.item s.row) s (next_among (with_position s (s.position + 1) 0) t rs)
+next_among s t (r ∷ rs) = or_next (seek t r.item s.row) s (next_among (move_on s) t rs)
 
 abbrev pub next : State → Table → Next
 next s t = next_among s t (drop s.position s.trail)

@@ -63,8 +63,10 @@ impl<'a> Session<'a> {
         marks: &'a mut [Option<u32>],
     ) -> Session<'a>
         ensures state { state result ≡ open_session items (length places.old) (length marks.old) }
-        ensures places { (result.trail.places.ghost_name ≡ places.entry.ghost_name) × (result.trail.places.now ≡ places.old) }
-        ensures marks { (result.trail.marks.ghost_name ≡ marks.entry.ghost_name) × (drop result.items result.trail.marks.now ≡ drop result.items marks.old) }
+        ensures places { (result.trail.places.ghost_name ≡ places.entry.ghost_name)
+            × (result.trail.places.now ≡ places.old) }
+        ensures marks { (result.trail.marks.ghost_name ≡ marks.entry.ghost_name)
+            × (drop result.items result.trail.marks.now ≡ drop result.items marks.old) }
     {
         let items = match Session::check(items, places, marks) {
             Ok(()) => items,
@@ -99,8 +101,8 @@ impl<'a> Session<'a> {
         self.trail.marks[item as usize]
     }
 
-    // Whether an item is on the trail.
-    fn is_on_trail(&self, item: u32) -> bool
+    // Whether an item of the session is active.
+    fn is_active(&self, item: u32) -> bool
         requires { item < self.now.items }
         ensures { result ≡ active (trail_of self.now) item }
     {
@@ -114,7 +116,7 @@ impl<'a> Session<'a> {
     {
         match partner {
             None => true,
-            Some(item) => self.is_on_trail(item),
+            Some(item) => self.is_active(item),
         }
     }
 
@@ -133,7 +135,7 @@ impl<'a> Session<'a> {
         if item >= self.items {
             return Err(SessionFault::Item);
         }
-        Ok(self.is_on_trail(item))
+        Ok(self.is_active(item))
     }
 
     /// What made an item active. It is refused for an item beyond the session's, and for one that is not active.
@@ -159,15 +161,17 @@ impl Session<'_> {
     ghost use Rattle.rulebook.specs.Tables.{max_rows};
     ghost use Rattle.session.specs.Held.{trail_of, state, Keeps};
     ghost use Rattle.session.specs.Histories.{call_view, call_answer, call_leaves};
-    ghost use Rattle.session.specs.States.{with_trail, with_position, request_one, request_answer, request_leaves, worked_item, conclude, take_entry, settle_answer, settle_leaves};
+    ghost use Rattle.session.specs.States.{with_trail, move_on, request_one, request_answer, request_leaves, worked_item, conclude, take_entry, settle_answer, settle_leaves};
     ghost use Rattle.session.specs.Trails.{active};
 
     // A record of an item that is not active joins the trail.
     fn join(&mut self, added: TrailRecord)
         requires below { added.item < self.old.items }
         requires inactive { active (trail_of self.old) added.item ≡ false }
-        requires older { IfSome added.first (λ c. c < self.old.trail.len) × IfSome added.second (λ c. c < self.old.trail.len) }
-        ensures state { state self.new ≡ with_trail (state self.old) (trail_of self.old ++ added ∷ []) }
+        requires older { IfSome added.first (λ c. c < self.old.trail.len)
+            × IfSome added.second (λ c. c < self.old.trail.len) }
+        ensures state { state self.new
+            ≡ with_trail (state self.old) (trail_of self.old ++ added ∷ []) }
         ensures keeps { Keeps self.old self.new }
     {
         self.trail.push(added);
@@ -191,7 +195,7 @@ impl Session<'_> {
         ensures state { state self.new ≡ request_one (state self.old) item }
         ensures keeps { Keeps self.old self.new }
     {
-        if !self.is_on_trail(item) {
+        if !self.is_active(item) {
             self.join(TrailRecord {
                 item,
                 first: None,
@@ -228,7 +232,7 @@ impl Session<'_> {
     // On to the next trail item, at row 0.
     fn move_on(&mut self)
         requires { self.old.position < self.old.trail.len }
-        ensures state { state self.new ≡ with_position (state self.old) (self.old.position + 1) 0 }
+        ensures state { state self.new ≡ move_on (state self.old) }
         ensures keeps { Keeps self.old self.new }
     {
         self.position += 1;
@@ -238,11 +242,12 @@ impl Session<'_> {
     // The conclusion of an entry joins the trail if its premises are active and it is not.
     fn conclude(&mut self, entry: WatchEntry)
         requires position { self.old.position < self.old.trail.len }
-        requires below { (entry.conclusion < self.old.items) × IfSome entry.partner (λ b. b < self.old.items) }
+        requires below { (entry.conclusion < self.old.items)
+            × IfSome entry.partner (λ b. b < self.old.items) }
         ensures state { state self.new ≡ conclude (state self.old) entry }
         ensures keeps { Keeps self.old self.new }
     {
-        if self.grants(entry.partner) && !self.is_on_trail(entry.conclusion) {
+        if self.grants(entry.partner) && !self.is_active(entry.conclusion) {
             let first = Some(self.position);
             let second = self.cause_of(entry.partner);
             self.join(TrailRecord {
@@ -256,7 +261,8 @@ impl Session<'_> {
     // An entry of the worked item is taken.
     fn take_entry(&mut self, found: RowEntry)
         requires position { self.old.position < self.old.trail.len }
-        requires below { (found.entry.conclusion < self.old.items) × IfSome found.entry.partner (λ b. b < self.old.items) }
+        requires below { (found.entry.conclusion < self.old.items)
+            × IfSome found.entry.partner (λ b. b < self.old.items) }
         requires row { found.row < max_rows }
         ensures state { state self.new ≡ take_entry (state self.old) found }
         ensures keeps { Keeps self.old self.new }
@@ -269,8 +275,10 @@ impl Session<'_> {
     ///
     /// It is refused by a rulebook of another item count.
     pub fn settle<B: Rulebook>(&mut self, book: &B, budget: u32) -> Result<Outcome, SessionFault>
-        ensures answer { result ≡ settle_answer (state self.old) (B.Rulebook.table book.now) budget }
-        ensures state { state self.new ≡ settle_leaves (state self.old) (B.Rulebook.table book.now) budget }
+        ensures answer { result
+            ≡ settle_answer (state self.old) (B.Rulebook.table book.now) budget }
+        ensures state { state self.new
+            ≡ settle_leaves (state self.old) (B.Rulebook.table book.now) budget }
         ensures keeps { Keeps self.old self.new }
     {
         if book.items() != self.items {
@@ -292,8 +300,10 @@ impl Session<'_> {
 
     /// Makes one call by a rulebook.
     pub fn call<B: Rulebook>(&mut self, book: &B, call: Call<'_>) -> Answer
-        ensures answer { result ≡ call_answer (state self.old) (B.Rulebook.table book.now) (call_view call.entry) }
-        ensures state { state self.new ≡ call_leaves (state self.old) (B.Rulebook.table book.now) (call_view call.entry) }
+        ensures answer { result
+            ≡ call_answer (state self.old) (B.Rulebook.table book.now) (call_view call.entry) }
+        ensures state { state self.new
+            ≡ call_leaves (state self.old) (B.Rulebook.table book.now) (call_view call.entry) }
         ensures keeps { Keeps self.old self.new }
     {
         match call {

@@ -40,7 +40,8 @@ impl Trail<'_> {
         requires position { self.old.len < length self.old.places.now }
         requires mark { added.item < length self.old.marks.now }
         ensures places { self.new.places.now ≡ slice_set self.old.places.now self.old.len added }
-        ensures marks { self.new.marks.now ≡ slice_set self.old.marks.now added.item (Some self.old.len) }
+        ensures marks { self.new.marks.now
+            ≡ slice_set self.old.marks.now added.item (Some self.old.len) }
         ensures len { self.new.len ≡ self.old.len + 1 }
         ensures same { SameMemory self.old self.new }
     {

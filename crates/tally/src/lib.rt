@@ -1,13 +1,13 @@
-// Counts of what a program compares.
+//! Counts of what a program compares.
 
 #![tactic(auto)]
 
 ghost use Rattle.std.specs.Prelude.{◌≡◌};
-ghost use Rattle.tally.specs.Noted.{noted};
+ghost use Rattle.tally.specs.Notes.{note};
 
 use std::fmt;
 
-// How many were compared, and how many differ.
+/// How many were compared, and how many differ.
 #[derive(Default, Drop)]
 pub struct Tally {
     pub compared: u64,
@@ -15,8 +15,9 @@ pub struct Tally {
 }
 
 impl Tally {
+    /// Counts one more that was compared, and one more that differs unless it is the same.
     pub fn note(&mut self, same: bool)
-        ensures { self.new ≡ noted self.old same }
+        ensures { self.new ≡ note self.old same }
     {
         self.compared = self.compared.saturating_add(1);
         self.differ = self.differ.saturating_add(u64::from(!same));

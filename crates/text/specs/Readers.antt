@@ -36,7 +36,8 @@ colon = 58
 
 -- c is the letter of the word dep at the place len, where dep says that those before it are there
 abbrev pub spells_dep : Bool → ℕ → ℕ → Bool
-spells_dep dep len c = dep && ((len == 0 && c == 100) || ((len == 1 && c == 101) || (len == 2 && c == 112)))
+spells_dep dep len c =
+    dep && ((len == 0 && c == 100) || ((len == 1 && c == 101) || (len == 2 && c == 112)))
 
 -- the state after the byte c, or none where no lawful string goes on so
 abbrev pub step : State → ℕ → Option State
@@ -48,7 +49,8 @@ step (First len dep) c =
     else if c == colon && (dep && len == 3) then Some (BeforeLast Switch len)
     else None
 step (AfterQuestion first_len) c = if c == slash then Some (BeforeLast Weak first_len) else None
-step (BeforeLast separator first_len) c = if initial c then Some (Last separator first_len 1) else None
+step (BeforeLast separator first_len) c =
+    if initial c then Some (Last separator first_len 1) else None
 step (Last separator first_len len) c =
     if inner c && nat_lt len max_name_bytes then Some (Last separator first_len (len + 1)) else None
 
@@ -68,7 +70,8 @@ finish (BeforeLast separator first_len) t = Err (NoForm (length t))
 finish (Last Switch first_len len) t = Ok (switch (piece_from 4 t))
 finish (Last Strong first_len len) t =
     Ok (strong (piece_before first_len t) (piece_from (first_len + 1) t))
-finish (Last Weak first_len len) t = Ok (weak (piece_before first_len t) (piece_from (first_len + 2) t))
+finish (Last Weak first_len len) t =
+    Ok (weak (piece_before first_len t) (piece_from (first_len + 2) t))
 
 abbrev pub read_form : List ℕ → Result (Form Piece) StringFault
 read_form t = read_from step finish NoForm t Start 0 t
@@ -90,5 +93,7 @@ abbrev pub Room : State → ℕ → Type 0
 Room Start at = Unit {0}
 Room (First len dep) at = len ≤ at
 Room (AfterQuestion first_len) at = first_len + 1 ≤ at
-Room (BeforeLast separator first_len) at = (first_len + width separator ≤ at) × Letters separator first_len
-Room (Last separator first_len len) at = (first_len + width separator ≤ at) × Letters separator first_len
+Room (BeforeLast separator first_len) at =
+    (first_len + width separator ≤ at) × Letters separator first_len
+Room (Last separator first_len len) at =
+    (first_len + width separator ≤ at) × Letters separator first_len

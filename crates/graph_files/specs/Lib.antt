@@ -1,0 +1,3 @@
+pub mod Kinds
+pub mod Bytes
+pub mod Spelling
