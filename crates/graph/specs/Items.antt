@@ -35,7 +35,8 @@ abbrev pub local_item : WordCounts → ℕ → Option LocalItem
 local_item c i =
     if nat_lt i c.packages then Some (Unit i)
     else (if nat_lt (i - c.packages) c.dependencies then Some (Dependency (i - c.packages))
-    else (if nat_lt (i - c.packages - c.dependencies) c.features then Some (Feature (i - c.packages - c.dependencies))
+    else (if nat_lt (i - c.packages - c.dependencies) c.features
+    then Some (Feature (i - c.packages - c.dependencies))
     else None))
 
 -- the number of an item, and the item of a number
@@ -44,7 +45,9 @@ item_number c x = option_map (item_on (local_items c) x.side) (local_number c x.
 
 abbrev pub item_from : WordCounts → ℕ → Option Side → Option Item
 item_from c i None = None
-item_from c i (Some s) = option_map (λ l. record { side = s; local = l }) (local_item c (i - first_item (local_items c) s))
+item_from c i (Some s) =
+    option_map (λ l. record { side = s; local = l })
+    (local_item c (i - first_item (local_items c) s))
 
 abbrev pub item_at : WordCounts → ℕ → Option Item
 item_at c i = item_from c i (side_of (local_items c) i)

@@ -38,11 +38,13 @@ lane_word None = lanes
 lane_word (Some l) = lane_number l
 
 abbrev pub row_words : Row → List ℕ
-row_words r = r.rule.from ∷ with_word r.rule.with ∷ r.rule.to ∷ lane_word r.lane ∷ from_bool r.cross ∷ []
+row_words r =
+    r.rule.from ∷ with_word r.rule.with ∷ r.rule.to ∷ lane_word r.lane ∷ from_bool r.cross ∷ []
 
 -- the words of a graph: P, E, F, R, then the rows
 abbrev pub graph_words : Graph → List ℕ
-graph_words g = length g ∷ dependency_count g ∷ feature_count g ∷ length (rows g) ∷ flat_map row_words (rows g)
+graph_words g =
+    length g ∷ dependency_count g ∷ feature_count g ∷ length (rows g) ∷ flat_map row_words (rows g)
 
 -- the item that a word names, if any; and the row of five words: none, if the lane or cross is out of range
 abbrev pub with_of : ℕ → Option ℕ
@@ -76,7 +78,12 @@ are_graph_words ws =
 abbrev pub word_counts : List ℕ → WordCounts
 word_counts ws =
     if are_graph_words ws
-    then record { packages = slice_index ws 0; dependencies = slice_index ws 1; features = slice_index ws 2; rows = slice_index ws 3 }
+    then record {
+      packages = slice_index ws 0;
+      dependencies = slice_index ws 1;
+      features = slice_index ws 2;
+      rows = slice_index ws 3;
+    }
     else record { packages = 0; dependencies = 0; features = 0; rows = 0 }
 
 -- how many local items there are: units, dependencies and features

@@ -69,8 +69,7 @@ pub struct GraphWords<'a> {
     ghost counted: { counts ≡ word_counts words.now },
 }
 
-// The row whose words begin at a place: none, if what they say is out of range. One row is looked at, so its place is
-// counted and not cut with all others.
+// The row whose words begin at a place: none, if what they say is out of range.
 fn row_at(words: &[u32], items: u32, start: usize) -> Option<Row>
     requires { start + row_width ≤ length words.now }
     ensures { result ≡ row_at items words.now start }

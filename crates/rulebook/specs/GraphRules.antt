@@ -36,15 +36,18 @@ pub record IsWatchEntryOf (answers : Answers) (g : Graph) (i : ℕ) (e : WatchEn
   pub leads : Leads answers side rule goal
   pub conclusion : e.conclusion ≡ number_on g goal rule.to
   pub premises : ((i ≡ number_on g side rule.from) × (e.partner ≡ option_map (number_on g side) rule.with))
-      ⊎ ((x : Item) × (rule.with ≡ Some x) × (i ≡ number_on g side x) × (e.partner ≡ Some (number_on g side rule.from)))
+      ⊎ ((x : Item) × (rule.with ≡ Some x) × (i ≡ number_on g side x)
+      × (e.partner ≡ Some (number_on g side rule.from)))
 
 -- the table is that of a graph under these answers:
 pub record TableOf (answers : Answers) (g : Graph) (t : Table) : Type 0 where
   -- its items are the graph's on each side, each with a number of its own;
   pub items : t.items ≡ sides * item_count g
   pub below : (s : Side) (x : Item) → Has g x → number_on g s x < t.items
-  pub apart : (s u : Side) (x y : Item) → Has g x → Has g y → number_on g s x ≡ number_on g u y → (s ≡ u) × (x ≡ y)
+  pub apart : (s u : Side) (x y : Item) → Has g x → Has g y →
+      number_on g s x ≡ number_on g u y → (s ≡ u) × (x ≡ y)
   pub all : (i : ℕ) → i < t.items → (s : Side) × (x : Item) × Has g x × (number_on g s x ≡ i)
   -- its entries are those of the graph's rules, where they lead
   pub sound : (i r : ℕ) (e : WatchEntry) → t.entry i r ≡ Some e → IsWatchEntryOf answers g i e
-  pub complete : (i : ℕ) (e : WatchEntry) → IsWatchEntryOf answers g i e → (r : ℕ) × (t.entry i r ≡ Some e)
+  pub complete : (i : ℕ) (e : WatchEntry) → IsWatchEntryOf answers g i e →
+      (r : ℕ) × (t.entry i r ≡ Some e)

@@ -24,7 +24,11 @@ landing s true (Some goal) = Some goal
 
 -- a rule between local items as one between items: its premises on side s, its conclusion on side goal
 abbrev pub on_sides : ℕ → Side → Side → ItemRule → ItemRule
-on_sides n s goal ρ = record { from = item_on n s ρ.from; with = option_map (item_on n s) ρ.with; to = item_on n goal ρ.to }
+on_sides n s goal ρ = record {
+  from = item_on n s ρ.from;
+  with = option_map (item_on n s) ρ.with;
+  to = item_on n goal ρ.to;
+}
 
 -- the rule that a row gives on a side: its premises are there
 abbrev pub rule_on : Answers → ℕ → Side → Option Row → Option ItemRule

@@ -35,4 +35,5 @@ abbrev pub house_rule : ℕ → List ℕ → ℕ → Option ItemRule
 house_rule n ws r = if nat_lt r (house_rows ws) then rule_within n (house_row ws r) else None
 
 abbrev pub house_table : ℕ → List ℕ → Table
-house_table items ws = rule_table (count_of items) (house_rows ws) (λ i r. house_rule (count_of items) ws r)
+house_table items ws =
+    rule_table (count_of items) (house_rows ws) (λ i r. house_rule (count_of items) ws r)

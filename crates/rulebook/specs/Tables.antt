@@ -27,7 +27,8 @@ pub record Laws (t : Table) : Type 0 where
   -- there is nothing beyond the counts
   pub within : (i r : ℕ) (e : WatchEntry) → t.entry i r ≡ Some e → (i < t.items) × (r < t.rows)
   -- entries name items
-  pub below : (i r : ℕ) (e : WatchEntry) → t.entry i r ≡ Some e → (e.conclusion < t.items) × IfSome e.partner (λ b. b < t.items)
+  pub below : (i r : ℕ) (e : WatchEntry) → t.entry i r ≡ Some e →
+      (e.conclusion < t.items) × IfSome e.partner (λ b. b < t.items)
   -- a pair rule is watched from both of its premises
   pub paired : (a b c r : ℕ) → t.entry a r ≡ Some (pair b c) → t.entry b r ≡ Some (pair a c)
 

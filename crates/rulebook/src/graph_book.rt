@@ -28,8 +28,11 @@ impl<'a> GraphBook<'a> {
     /// The book of graph words under a policy, which is asked once. Words that are no graph words make a book without
     /// items.
     pub fn new<P: Policy>(words: &'a [u32], policy: &P) -> GraphBook<'a>
-        ensures table { ⟦<GraphBook<'a> as Rulebook>⟧.table result ≡ graph_table (P.Policy.answers policy.now) words.now }
-        ensures rules { (file before : List ℕ) (g : Graph) → Opens file before g → words.now ≡ over (graph_words g) before → TableOf (P.Policy.answers policy.now) g (⟦<GraphBook<'a> as Rulebook>⟧.table result) }
+        ensures table { ⟦<GraphBook<'a> as Rulebook>⟧.table result
+            ≡ graph_table (P.Policy.answers policy.now) words.now }
+        ensures rules { (file before : List ℕ) (g : Graph) → Opens file before g →
+            words.now ≡ over (graph_words g) before →
+            TableOf (P.Policy.answers policy.now) g (⟦<GraphBook<'a> as Rulebook>⟧.table result) }
     {
         GraphBook {
             words: GraphWords::of(words),

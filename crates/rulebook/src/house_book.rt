@@ -23,7 +23,8 @@ pub struct HouseBook<'a> {
 // The whole rows of the words, up to the limit.
 fn rows(words: &[u32]) -> &[[u32; ROW_WIDTH]]
     ensures len { length result.now ≡ house_rows words.now }
-    ensures each { (r : ℕ) → r < length result.now → slice_index_or result.now r [] ≡ take house_width (drop (house_width * r) words.now) }
+    ensures each { (r : ℕ) → r < length result.now →
+        slice_index_or result.now r [] ≡ take house_width (drop (house_width * r) words.now) }
 {
     let (rows, _) = words.as_chunks();
     &rows[..rows.len().min(MAX_HOUSE_ROWS)]

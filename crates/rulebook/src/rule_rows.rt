@@ -24,7 +24,9 @@ pub trait RuleRows {
 
 // The first watch entry of an item at or after a row.
 pub(crate) fn first_entry<R: RuleRows>(rows: &R, item: u32, row: u32) -> Option<RowEntry>
-    ensures { result ≡ first_of (λ k. entry_in (R.RuleRows.rule rows.now k) item) row (R.RuleRows.count rows.now - row) }
+    ensures { result
+        ≡ first_of (λ k. entry_in (R.RuleRows.rule rows.now k) item) row
+        (R.RuleRows.count rows.now - row) }
 {
     (row..rows.count()).find_map(|row| {
         let entry = WatchEntry::of(rows.rule(row)?, item)?;

@@ -51,7 +51,8 @@ impl SideRows<'_> {
 impl RuleRows for SideRows<'_> {
     ghost count = { λ s. row_count s.words.words.now };
 
-    ghost rule = { λ s r. rule_on (answers_of s.answers.now) (local_count s.words.words.now) s.side (row_in s.words.words.now r) };
+    ghost rule = { λ s r. rule_on (answers_of s.answers.now) (local_count s.words.words.now) s.side
+        (row_in s.words.words.now r) };
 
     fn count(&self) -> u32 {
         self.words.rows()
