@@ -76,7 +76,6 @@ fn lengthen(dice: &mut Dice, words: &mut Vec<u32>) -> Result<(), AllocError> {
 // Damages words once: a word of a row or a count replaced, some words cut off, or more behind.
 fn damage(dice: &mut Dice, words: &mut Vec<u32>) -> Result<(), AllocError> {
     let at = dice.below(words.len().max(1));
-    // a number of the die, as an enum would be made from it by the same match
     match dice.below(6) {
         0 => {
             let count = dice.below(4);

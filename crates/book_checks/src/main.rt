@@ -5,8 +5,6 @@
 mod asks;
 mod books;
 mod draws;
-#[cfg(test)]
-mod edges;
 mod graphs;
 mod houses;
 mod plain;

@@ -11,7 +11,7 @@ pub enum Manner {
     // as the rules say
     Right,
     // what `with` watches is left out
-    MateUnwatched,
+    WithUnwatched,
     // from and with are taken for each other
     Swapped,
     // the conclusion stays on the side of from, whatever cross says
@@ -99,7 +99,7 @@ impl Reading {
         let mut number = 0u64;
         for row in rows {
             match self.rule(*row) {
-                Some(rule) if self.manner == Manner::MateUnwatched => book.add_from(number, rule)?,
+                Some(rule) if self.manner == Manner::WithUnwatched => book.add_from(number, rule)?,
                 Some(rule) => book.add(number, rule)?,
                 None => {}
             }

@@ -53,7 +53,7 @@ pub fn try_all(heap: Global) -> Result<Trials, AllocError> {
     trials.try_one(heap, &HostSplit, &HOST_LEAKS, Manner::Right)?;
     let no_dev = DevCut { below: HostSplit };
     for manner in [
-        Manner::MateUnwatched,
+        Manner::WithUnwatched,
         Manner::Swapped,
         Manner::CrossIgnored,
         Manner::CutStays,

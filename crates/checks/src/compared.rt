@@ -8,7 +8,7 @@ use std::{fmt, iter};
 use tally::Tally;
 
 // What the library answers.
-pub fn open(file: &[u8], words: &mut [u32]) -> Result<Opened, Refusal> {
+fn open(file: &[u8], words: &mut [u32]) -> Result<Opened, Refusal> {
     open_graph(file, words).map_err(Refusal::from)
 }
 

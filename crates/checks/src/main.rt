@@ -5,16 +5,10 @@
 
 mod compared;
 mod damaged;
-#[cfg(test)]
-mod damages;
-#[cfg(test)]
-mod edges;
 mod encode;
 mod example;
 mod inputs;
 mod kinds;
-#[cfg(test)]
-mod limits;
 mod opener;
 mod random;
 mod second;

@@ -1,18 +1,13 @@
 // Files at the limits: the last that is accepted, and the first that is refused.
-use crate::compared::open;
-use crate::damages;
-use crate::encode::{
-    EdgeHead, dependency_record, end_record, feature_record, header, package_record,
+use crate::refused::{self, Outcome, open};
+use graph::{EXAMPLE, Opened};
+use graph_files::{
+    DependencyHead, EdgeKind, FeatureString, dependency_record, end_record, feature_record, header,
+    package_record,
 };
-use crate::example::example;
-use crate::kinds::EdgeKind;
-use graph::Opened;
-use refusals::Refusal;
 use std::alloc::{AllocError, Global};
 use std::process::Abort;
 use std::test::Fail;
-
-type Outcome = Result<Opened, Refusal>;
 
 fn accepted(read: usize, packages: u32, dependencies: u32, features: u32, rows: u32) -> Outcome {
     Ok(Opened {
@@ -25,7 +20,7 @@ fn accepted(read: usize, packages: u32, dependencies: u32, features: u32, rows: 
 }
 
 fn refused(number: u32, record: usize, start: usize) -> Outcome {
-    Err(damages::refused(number, record, start, 0, 0))
+    Err(refused::refused(number, record, start, 0, 0))
 }
 
 fn check_opens(
@@ -43,10 +38,9 @@ fn check_opens(
 #[test]
 fn words(rt: HostRuntime) -> Result<(), Fail> {
     let heap = rt.alloc();
-    let file = example(heap)?;
-    check_opens(&rt, heap, file.as_slice(), 54, accepted(173, 3, 3, 4, 10))?;
-    check_opens(&rt, heap, file.as_slice(), 53, refused(9, 0, 0))?;
-    check_opens(&rt, heap, file.as_slice(), 0, refused(9, 0, 0))?;
+    check_opens(&rt, heap, &EXAMPLE, 54, accepted(173, 3, 3, 4, 10))?;
+    check_opens(&rt, heap, &EXAMPLE, 53, refused(9, 0, 0))?;
+    check_opens(&rt, heap, &EXAMPLE, 0, refused(9, 0, 0))?;
     let mut small = header(heap)?;
     small.extend_from_slice(end_record(heap)?.as_slice())?;
     check_opens(&rt, heap, small.as_slice(), 4, accepted(14, 0, 0, 0, 0))?;
@@ -56,7 +50,7 @@ fn words(rt: HostRuntime) -> Result<(), Fail> {
 #[test]
 fn bytes(rt: HostRuntime) -> Result<(), Fail> {
     let heap = rt.alloc();
-    let mut file = example(heap)?;
+    let mut file = Vec::from_slice(heap, &EXAMPLE)?;
     file.extend_from_slice(vec![in heap; 0xFFu8; 1_048_403]?.as_slice())?;
     assert_eq!(rt; file.len(), 1_048_576);
     check_opens(&rt, heap, file.as_slice(), 54, accepted(173, 3, 3, 4, 10))?;
@@ -76,7 +70,6 @@ fn file_of(heap: Global, packages: usize, others: &[u8]) -> Result<Vec<u8>, Allo
     .concat(heap)
 }
 
-// One function for this test and the next two would take six figures and both lists, and be two calls.
 #[test]
 fn packages(rt: HostRuntime) -> Result<(), Fail> {
     let heap = rt.alloc();
@@ -99,14 +92,13 @@ fn dependencies_of(
     name: &[u8],
     optional: bool,
 ) -> Result<Vec<u8>, AllocError> {
-    let head = EdgeHead {
+    let head = DependencyHead {
         end: 0,
         kind: EdgeKind::Normal,
         optional,
         defaults: false,
     };
-    let no_asks: [&[u8]; 0] = [];
-    dependency_record(heap, head, name, &no_asks)?.repeat(heap, count)
+    dependency_record(heap, head, name, &[])?.repeat(heap, count)
 }
 
 #[test]
@@ -141,11 +133,10 @@ fn dependencies(rt: HostRuntime) -> Result<(), Fail> {
 
 // Features `f00000`, `f00001` and so on, without values.
 fn features_of(heap: Global, count: usize) -> Result<Vec<u8>, AllocError> {
-    let no_values: [&[u8]; 0] = [];
     let mut records = Vec::new(heap);
     for i in 0..count {
         let name = format!(in heap; "f{i:05}")?;
-        let record = feature_record(heap, name.as_bytes(), &no_values)?;
+        let record = feature_record(heap, name.as_bytes(), &[])?;
         records.extend_from_slice(record.as_slice())?;
     }
     Ok(records)
@@ -171,12 +162,21 @@ fn features(rt: HostRuntime) -> Result<(), Fail> {
 fn rows(rt: HostRuntime) -> Result<(), Fail> {
     let heap = rt.alloc();
     let mut records = dependencies_of(heap, 1_024, b"a", true)?;
-    records.extend_from_slice(feature_record(heap, b"f", &[b"dep:a"; 255])?.as_slice())?;
+    records.extend_from_slice(feature_record(
+        heap,
+        b"f",
+        &[FeatureString::Switch { dependency: b"a" }; 255],
+    )?
+    .as_slice())?;
     let most = file_of(heap, 1, records.as_slice())?;
     let outcome = accepted(15_898, 1, 1_024, 1, 262_144);
     check_opens(&rt, heap, most.as_slice(), 1_310_724, outcome)?;
     check_opens(&rt, heap, most.as_slice(), 1_310_723, refused(9, 0, 0))?;
-    records.extend_from_slice(feature_record(heap, b"g", &[b"g"])?.as_slice())?;
+    records.extend_from_slice(feature_record(
+        heap,
+        b"g",
+        &[FeatureString::Plain { feature: b"g" }],
+    )?.as_slice())?;
     let more = file_of(heap, 1, records.as_slice())?;
     check_opens(&rt, heap, more.as_slice(), 0, refused(8, 0, 0))
 }

@@ -18,24 +18,24 @@ const WEAK_64: &[u8] = b"aaaaaaaaaaaaaaaaaaaaaaaaaaaaaaaaaaaaaaaaaaaaaaaaaaaaaaa
 type Row<'a> = (&'a [u8], FeatureString<'a>);
 
 // So many bytes of a string, from a place on.
-fn part<'a>(text: &'a [u8], at: usize, len: usize) -> Piece<'a> {
+fn piece<'a>(text: &'a [u8], at: usize, len: usize) -> Piece<'a> {
     let bytes = text.get(at..at.saturating_add(len)).unwrap_or(&[]);
     Piece { at, bytes }
 }
 
 fn plain<'a>(text: &'a [u8], len: usize) -> Row<'a> {
-    let feature = part(text, 0, len);
+    let feature = piece(text, 0, len);
     (text, FeatureString::Plain { feature })
 }
 
 fn switch<'a>(text: &'a [u8], len: usize) -> Row<'a> {
-    let dependency = part(text, 4, len);
+    let dependency = piece(text, 4, len);
     (text, FeatureString::Switch { dependency })
 }
 
 fn strong<'a>(text: &'a [u8], cut: usize, at: usize, len: usize) -> Row<'a> {
-    let dependency = part(text, 0, cut);
-    let feature = part(text, at, len);
+    let dependency = piece(text, 0, cut);
+    let feature = piece(text, at, len);
     (
         text,
         FeatureString::Strong {
@@ -46,8 +46,8 @@ fn strong<'a>(text: &'a [u8], cut: usize, at: usize, len: usize) -> Row<'a> {
 }
 
 fn weak<'a>(text: &'a [u8], cut: usize, at: usize, len: usize) -> Row<'a> {
-    let dependency = part(text, 0, cut);
-    let feature = part(text, at, len);
+    let dependency = piece(text, 0, cut);
+    let feature = piece(text, at, len);
     (
         text,
         FeatureString::Weak {
@@ -148,7 +148,7 @@ fn no_name<'a>(text: &'a [u8], prefix: usize) -> NameRow<'a> {
 }
 
 fn name<'a>(text: &'a [u8], len: usize) -> NameRow<'a> {
-    (text, Ok(part(text, 0, len)))
+    (text, Ok(piece(text, 0, len)))
 }
 
 #[test]

@@ -1,7 +1,7 @@
 // Damaged copies of the example, with the refusals that the rules give them.
-use crate::compared::open;
-use crate::encode::feature_record;
-use crate::example::{RECORDS, example, joined, put};
+use crate::refused::{open, refused};
+use graph::EXAMPLE;
+use graph_files::{FeatureString, feature_record};
 use refusals::Refusal;
 use std::alloc::{AllocError, Global};
 use std::process::Abort;
@@ -10,26 +10,19 @@ use std::test::Fail;
 // A change of the byte at a place.
 type Change = (usize, u8);
 
-pub fn refused(number: u32, record: usize, start: usize, field: usize, prefix: usize) -> Refusal {
-    Refusal {
-        number,
-        record_number: record,
-        start,
-        field,
-        prefix,
-    }
-}
-
 fn check_refused(rt: &impl Abort, file: &[u8], refusal: Refusal) {
     let mut words = [7u32; 100];
     assert_eq!(rt; open(file, &mut words), Err(refusal));
     assert_eq!(rt; words, [7u32; 100]);
 }
 
+// The example with these bytes.
 fn changed(heap: Global, changes: &[Change]) -> Result<Vec<u8>, AllocError> {
-    let mut file = example(heap)?;
+    let mut file = Vec::from_slice(heap, &EXAMPLE)?;
     for (at, byte) in changes {
-        put(file.as_mut_slice(), *at, *byte);
+        if let Some(place) = file.get_mut(*at) {
+            *place = *byte;
+        }
     }
     Ok(file)
 }
@@ -57,7 +50,6 @@ fn cut_or_stray(rt: HostRuntime) -> Result<(), Fail> {
 
 #[test]
 fn cut_short(rt: HostRuntime) -> Result<(), Fail> {
-    let file = example(rt.alloc())?;
     for (len, record, start) in [
         (0usize, 0usize, 0usize),
         (3, 0, 0),
@@ -67,7 +59,7 @@ fn cut_short(rt: HostRuntime) -> Result<(), Fail> {
         (167, 11, 167),
         (172, 11, 167),
     ] {
-        let cut = file.as_slice().get(0..len).unwrap_or(&[]);
+        let cut = EXAMPLE.get(0..len).unwrap_or(&[]);
         check_refused(&rt, cut, refused(1, record, start, 0, 0));
     }
     let far = changed(rt.alloc(), &[(25, 0x03)])?;
@@ -149,58 +141,42 @@ fn unknown(rt: HostRuntime) -> Result<(), Fail> {
     )
 }
 
-// Records left out and written twice.
+// The bytes of the example up to one place, other bytes, and those of the example from another place on.
+fn patched(heap: Global, end: usize, other: &[u8], start: usize) -> Result<Vec<u8>, AllocError> {
+    let before = EXAMPLE.get(..end).unwrap_or(&[]);
+    let after = EXAMPLE.get(start..).unwrap_or(&[]);
+    [before, other, after].concat(heap)
+}
+
+// Records left out, where the second place is the later one, and records written twice.
 #[test]
 fn orders(rt: HostRuntime) -> Result<(), Fail> {
-    let table: [(&[usize], Refusal); 6] = [
-        (&[1, 2, 3, 4, 5, 6, 7, 8, 9, 10, 11], refused(2, 0, 0, 0, 0)),
-        (
-            &[0, 0, 1, 2, 3, 4, 5, 6, 7, 8, 9, 10, 11],
-            refused(2, 1, 8, 0, 0),
-        ),
-        (&[0, 2, 3, 4, 5, 6, 7, 8, 9, 10, 11], refused(2, 1, 8, 0, 0)),
-        (
-            &[0, 1, 2, 3, 4, 5, 6, 7, 8, 9, 10],
-            refused(1, 11, 167, 0, 0),
-        ),
-        (
-            &[0, 1, 2, 3, 4, 4, 5, 6, 7, 8, 9, 10, 11],
-            refused(6, 5, 70, 7, 0),
-        ),
-        (
-            &[0, 1, 2, 3, 4, 5, 6, 7, 7, 8, 9, 10, 11],
-            refused(6, 8, 122, 7, 0),
-        ),
-    ];
-    for (order, refusal) in table {
-        check_refused(&rt, joined(rt.alloc(), order)?.as_slice(), refusal);
+    for (end, start, refusal) in [
+        (0usize, 8usize, refused(2, 0, 0, 0, 0)),
+        (8, 0, refused(2, 1, 8, 0, 0)),
+        (8, 19, refused(2, 1, 8, 0, 0)),
+        (167, 173, refused(1, 11, 167, 0, 0)),
+        (70, 52, refused(6, 5, 70, 7, 0)),
+        (122, 111, refused(6, 8, 122, 7, 0)),
+    ] {
+        let file = patched(rt.alloc(), end, b"", start)?;
+        check_refused(&rt, file.as_slice(), refusal);
     }
     Ok(())
 }
 
-// The example with another record in the place of one.
-fn replaced(heap: Global, number: usize, other: &[u8]) -> Result<Vec<u8>, AllocError> {
-    let mut records = RECORDS;
-    if let Some(record) = records.get_mut(number) {
-        *record = other;
-    }
-    records.concat(heap)
-}
-
+// Another feature in the place of one.
 #[test]
 fn other_features(rt: HostRuntime) -> Result<(), Fail> {
-    let table: [(usize, &[u8], &[u8], Refusal); 3] = [
-        (4, b"default", b"", refused(5, 4, 52, 16, 0)),
-        (4, b"io", b"io", refused(6, 5, 65, 7, 0)),
-        (8, b"std", b"std", refused(6, 8, 122, 7, 0)),
+    let table: [(usize, usize, &[u8], &[u8], Refusal); 3] = [
+        (52, 70, b"default", b"", refused(5, 4, 52, 16, 0)),
+        (52, 70, b"io", b"io", refused(6, 5, 65, 7, 0)),
+        (122, 136, b"std", b"std", refused(6, 8, 122, 7, 0)),
     ];
-    for (number, name, value, refusal) in table {
-        let other = feature_record(rt.alloc(), name, &[value])?;
-        check_refused(
-            &rt,
-            replaced(rt.alloc(), number, other.as_slice())?.as_slice(),
-            refusal,
-        );
+    for (end, start, name, value, refusal) in table {
+        let other = feature_record(rt.alloc(), name, &[FeatureString::Plain { feature: value }])?;
+        let file = patched(rt.alloc(), end, other.as_slice(), start)?;
+        check_refused(&rt, file.as_slice(), refusal);
     }
     Ok(())
 }
