@@ -4,12 +4,12 @@ use refusals::Refusal;
 
 pub type Outcome = Result<Opened, Refusal>;
 
-pub fn open(file: &[u8], words: &mut [u32]) -> Outcome {
+pub(crate) fn open(file: &[u8], words: &mut [u32]) -> Outcome {
     open_graph(file, words).map_err(Refusal::from)
 }
 
 // A refusal, by its places.
-pub fn refused(
+pub(crate) fn refused(
     number: u32,
     record_number: usize,
     start: usize,
