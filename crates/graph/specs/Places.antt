@@ -1,14 +1,14 @@
--- Items of a graph by place, and their numbers.
+-- The places of items in a graph, and their numbers.
 use Rattle.std.specs.Prelude.{ℕ, ◌+◌, false, List, [], length, slice_index_or}
 use Rattle.lanes.specs.declared.edge_kinds.EdgeKind.TheVariants.{Normal}
 use Rattle.records.specs.Graphs.{Dependency, Feature, Package, Graph}
 use Rattle.graph.specs.Law.{dependencies_in, features_in, dependency_count, feature_count, count_before}
 
--- the unit of package p, its dependency k, its feature k
-pub data Item : Type 0 where
-  unit : (p : ℕ) → Item
-  dep : (p k : ℕ) → Item
-  feat : (p k : ℕ) → Item
+-- the place of an item: the unit of package p, its dependency k, its feature k
+pub data ItemPlace : Type 0 where
+  unit : (p : ℕ) → ItemPlace
+  dep : (p k : ℕ) → ItemPlace
+  feat : (p k : ℕ) → ItemPlace
 
 -- package p; an empty one beyond the packages
 abbrev pub empty_package : Package
@@ -39,7 +39,7 @@ abbrev pub features_before : Graph → ℕ → ℕ
 features_before = count_before features_in
 
 -- the local number of an item: units first, then dependencies, then features, each in file order
-abbrev pub number : Graph → Item → ℕ
+abbrev pub number : Graph → ItemPlace → ℕ
 number g (unit p) = p
 number g (dep p k) = length g + (dependencies_before g p + k)
 number g (feat p k) = length g + dependency_count g + (features_before g p + k)

@@ -6,14 +6,14 @@ use Rattle.text.specs.Forms.{Form, plain, switch, strong, weak}
 use Rattle.lanes.specs.declared.lane_numbers.Lane.{Lane}
 use Rattle.records.specs.Graphs.{Dependency, Feature, Package, Graph}
 use Rattle.graph.specs.Law.{dependencies_in, features_in}
-use Rattle.graph.specs.Places.{Item, unit, dep, feat, dependencies_of, features_of, package_at}
+use Rattle.graph.specs.Places.{ItemPlace, unit, dep, feat, dependencies_of, features_of, package_at}
 
 -- with its premises active, `from` and `with` if there is one, a rule makes `to` active; it is of a lane, or about
 -- no dependency, and with `cross` its conclusion is on the side where the lane leads
 pub record Rule : Type 0 where
-  pub from : Item
-  pub with : Option Item
-  pub to : Item
+  pub from : ItemPlace
+  pub with : Option ItemPlace
+  pub to : ItemPlace
   pub lane : Option Lane
   pub cross : Bool
 

@@ -2,7 +2,7 @@
 use Rattle.std.proofs.Common.{ℕ, Bool, length, sym, ap, ◌∙◌, subst, arith}
 use Rattle.std.specs.Prelude.{IsTrue}
 use Rattle.records.specs.Graphs.{Dependency, Graph}
-use Rattle.graph.specs.Places.{Item, unit, dep, feat}
+use Rattle.graph.specs.Places.{ItemPlace, unit, dep, feat}
 use Rattle.policy.specs.Answers.{Answers}
 use Rattle.rulebook.proofs.ItemPlaces.{dependency-owner}
 use Rattle.resolver.specs.Parts.{DependenciesAgree, PackagesAgree, Agree}
@@ -32,7 +32,7 @@ module _ (answers : Answers) (S : ℕ → Bool) (g h : Graph) where
   agree-back a = record { count = sym a.count; packages = λ p l s. packages-back p (a.packages p (omega (arith, l, a.count)) s) }
 
   -- the part has the same items
-  pub part-back : Agree answers S g h → (x : Item) → InPart S g x → InPart S h x
+  pub part-back : Agree answers S g h → (x : ItemPlace) → InPart S g x → InPart S h x
   part-back a (unit p) (has, s) = (omega (arith, has, a.count), s)
   part-back a (dep p k) (has, s) = (omega (arith, has, (a.packages p (dependency-owner g p k has) s).count), s)
   part-back a (feat p k) (has, s) = (omega (arith, has, ap length (a.packages p (feature-owner g p k has) s).features), s)

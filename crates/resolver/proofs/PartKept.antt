@@ -6,7 +6,7 @@ use Rattle.lanes.specs.declared.lane_numbers.Lane.{Lane}
 use Rattle.records.specs.Graphs.{Graph}
 use Rattle.graph.specs.Opening.{over}
 use Rattle.graph.specs.OpeningLaw.{ResolvedGraph, IsRuleOf}
-use Rattle.graph.specs.Places.{Item, number, item_count}
+use Rattle.graph.specs.Places.{ItemPlace, number, item_count}
 use Rattle.graph.specs.Rules.{Rule}
 use Rattle.graph.specs.Words.{graph_words}
 use Rattle.lanes.specs.declared.sides.Side.{Side}
@@ -38,30 +38,30 @@ host-stays : (answers : Answers) → LawfulAnswers answers → (cross : Bool) (l
 host-stays answers lawful cross None = host-landing cross (Some Host) (λ h. let z : ◌≡◌ {A = ℕ} 0 1 = cc in omega arith)
 host-stays answers lawful cross (Some l) = host-landing cross (answers l Host) (lawful l)
 
-held-some : (P : ℕ → Type 0) (f : Item → ℕ) (m : Option Item) → IfSome (option_map f m) P → Held (λ x. P (f x)) m
+held-some : (P : ℕ → Type 0) (f : ItemPlace → ℕ) (m : Option ItemPlace) → IfSome (option_map f m) P → Held (λ x. P (f x)) m
 held-some P f None h = tt
 held-some P f (Some x) h = h
 
-some-held : (P : ℕ → Type 0) (f : Item → ℕ) (m : Option Item) → Held (λ x. P (f x)) m → IfSome (option_map f m) P
+some-held : (P : ℕ → Type 0) (f : ItemPlace → ℕ) (m : Option ItemPlace) → Held (λ x. P (f x)) m → IfSome (option_map f m) P
 some-held P f None h = tt
 some-held P f (Some x) h = h
 
 module _ (answers : Answers) (lawful : LawfulAnswers answers) (S : ℕ → Bool) (g h : Graph) (resolved : ResolvedGraph g) (agree : Agree answers S g h)
     (t u : Table) (of : TableOf answers g t) (other : TableOf answers h u) where
   -- the package of an item is in S, and Y has its number in h
-  abbrev Shared : (ℕ → Bool) → Item → Type 0
+  abbrev Shared : (ℕ → Bool) → ItemPlace → Type 0
   Shared Y x = IsTrue (S (package_of x)) × IsTrue (Y (target_number h x))
 
   -- a target item of g, by its number, is shared
   abbrev Kept : (ℕ → Bool) → ℕ → Type 0
-  Kept Y i = i < item_count g → (x : Item) × Has g x × (target_number g x ≡ i) × Shared Y x
+  Kept Y i = i < item_count g → (x : ItemPlace) × Has g x × (target_number g x ≡ i) × Shared Y x
 
   module _ (Y : ℕ → Bool) where
     -- an item goes by its number
-    same-shared : (x y : Item) → Has g x → Has g y → target_number g y ≡ target_number g x → Shared Y y → Shared Y x
+    same-shared : (x y : ItemPlace) → Has g x → Has g y → target_number g y ≡ target_number g x → Shared Y y → Shared Y x
     same-shared x y a b e = let z : number g y ≡ number g x = omega (arith, e) in subst (Shared Y) (number_same g y x b a z)
 
-    kept-item : (x : Item) → Has g x → Kept Y (target_number g x) → Shared Y x
+    kept-item : (x : ItemPlace) → Has g x → Kept Y (target_number g x) → Shared Y x
     kept-item x has kept =
         let low : target_number g x < item_count g = omega (arith, number-low g x has) in
         let (y, there, e, shared) = kept low in
@@ -76,11 +76,11 @@ module _ (answers : Answers) (lawful : LawfulAnswers answers) (S : ℕ → Bool)
         (λ (l : item_count g ≤ i). inl (λ m. absurd (omega arith)))
         (cases_lt i (item_count g))
       where
-        go : i < item_count g → (x : Item) → Has g x → target_number g x ≡ i → Decided (Shared Y x) → Decided (Kept Y i)
+        go : i < item_count g → (x : ItemPlace) → Has g x → target_number g x ≡ i → Decided (Shared Y x) → Decided (Kept Y i)
         go l x has q (inl shared) = inl (λ m. (x, has, q, shared))
         go l x has q (inr n) = inr (λ kept. let (y, there, e, shared) = kept l in n (same-shared x y has there (e ∙ sym q) shared))
 
-    kept-mate : (m : Option Item) → Held (Has g) m → Held (λ x. Kept Y (target_number g x)) m → Held (λ x. IsTrue (Y (target_number h x))) m
+    kept-mate : (m : Option ItemPlace) → Held (Has g) m → Held (λ x. Kept Y (target_number g x)) m → Held (λ x. IsTrue (Y (target_number h x))) m
     kept-mate None has kept = tt
     kept-mate (Some x) has kept = (kept-item x has kept).1
 
@@ -112,8 +112,8 @@ module _ (answers : Answers) (lawful : LawfulAnswers answers) (S : ℕ → Bool)
       where
         go : (side goal : Side) (ρ : Rule) → IsRuleOf g ρ → Leads answers side ρ goal → e.conclusion ≡ number_on g goal ρ.to →
             ((i ≡ number_on g side ρ.from) × (e.partner ≡ option_map (number_on g side) ρ.with))
-            ⊎ ((x : Item) × (ρ.with ≡ Some x) × (i ≡ number_on g side x) × (e.partner ≡ Some (number_on g side ρ.from))) →
-            (x : Item) × Has g x × (target_number g x ≡ e.conclusion) × Shared Y x
+            ⊎ ((x : ItemPlace) × (ρ.with ≡ Some x) × (i ≡ number_on g side x) × (e.partner ≡ Some (number_on g side ρ.from))) →
+            (x : ItemPlace) × Has g x × (target_number g x ≡ e.conclusion) × Shared Y x
         go side Host ρ is_rule leads c p = absurd (omega (arith, c, low))
         go Host Target ρ is_rule leads c p = absurd (host-stays answers lawful ρ.cross ρ.lane leads)
         go Target Target ρ is_rule leads c p =
@@ -126,7 +126,7 @@ module _ (answers : Answers) (lawful : LawfulAnswers answers) (S : ℕ → Bool)
 
   one-way : (m n : ℕ) (calls others : List Call) → SessionLaw t m calls → SessionLaw u n others →
       AskedIn S g h (history t m calls).accepted (history u n others).accepted → IsTrue (history u n others).settled →
-      (x : Item) → InPart S g x → Active (history t m calls) (target_number g x) → Active (history u n others) (target_number h x)
+      (x : ItemPlace) → InPart S g x → Active (history t m calls) (target_number g x) → Active (history u n others) (target_number h x)
   one-way m n calls others law second asked settled x part active =
       second.complete settled (target_number h x)
       (least-simulates t u (history t m calls).accepted (history u n others).accepted Kept kept-decided

@@ -7,7 +7,7 @@ use Rattle.lanes.specs.declared.lane_numbers.Lane.{Lane}
 use Rattle.records.specs.Graphs.{Dependency, Feature, Graph}
 use Rattle.graph.specs.Law.{features_in}
 use Rattle.graph.specs.OpeningLaw.{DependencyAt, FeatureAt, NamedAt, IsRuleOf, needs, builds, defaults, asks, plainly, switches, joins}
-use Rattle.graph.specs.Places.{Item, unit, dep, feat, dependencies_of, features_of, no_dependency, no_feature}
+use Rattle.graph.specs.Places.{ItemPlace, unit, dep, feat, dependencies_of, features_of, no_dependency, no_feature}
 use Rattle.graph.specs.Rules.{Rule, lane_of}
 use Rattle.graph.proofs.Befores.{package-beyond}
 use Rattle.lanes.specs.declared.sides.Side.{Side}
@@ -58,7 +58,7 @@ module _ (answers : Answers) (S : ℕ → Bool) (g h : Graph) (agree : Agree ans
   end-name d e k n q s named = subst (λ p. NamedAt h p k n) q (same-name d.end k n s named)
 
   -- a rule that leads over dependency d to an item of its end
-  over : (d e : Dependency) → DependenciesAgree answers S g h d e → (from : Item) (with : Option Item) (to : ℕ → Item) → ((q : ℕ) → package_of (to q) ≡ q) →
+  over : (d e : Dependency) → DependenciesAgree answers S g h d e → (from : ItemPlace) (with : Option ItemPlace) (to : ℕ → ItemPlace) → ((q : ℕ) → package_of (to q) ≡ q) →
       Leads answers Target (record { from = from; with = with; to = to d.end; lane = Some (lane_of g d); cross = true }) Target →
       ((d.end ≡ e.end) × (d.asks ≡ e.asks) × (d.defaults ≡ e.defaults) × IsTrue (S d.end) →
       IsRuleOf h (record { from = from; with = with; to = to e.end; lane = Some (lane_of h e); cross = true })) →

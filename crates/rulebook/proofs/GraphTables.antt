@@ -9,7 +9,7 @@ use Rattle.graph.specs.declared.graph_words.WordCounts.{WordCounts}
 use Rattle.graph.specs.Law.{dependency_count, feature_count}
 use Rattle.graph.specs.Opening.{over}
 use Rattle.graph.specs.OpeningLaw.{NamedAt, Opens, ResolvedGraph, IsRuleOf, needs, builds, defaults, asks, plainly, switches, joins}
-use Rattle.graph.specs.Places.{Item, unit, feat, number, item_count}
+use Rattle.graph.specs.Places.{ItemPlace, unit, feat, number, item_count}
 use Rattle.graph.specs.Rules.{Rule, rules}
 use Rattle.graph.specs.Items.{item_on, side_of}
 use Rattle.graph.specs.Words.{rows, row_of, graph_words, are_graph_words, local_count, row_count, local_items, row_start, row_at, row_in}
@@ -59,7 +59,7 @@ module _ (g : Graph) (resolved : ResolvedGraph g) where
 abbrev no_rule : Rule
 no_rule = record { from = unit 0; with = None; to = unit 0; lane = None; cross = false }
 
-held_below : (g : Graph) (m : Option Item) → Held (Has g) m → IfSome (option_map (number g) m) (λ j. j < item_count g)
+held_below : (g : Graph) (m : Option ItemPlace) → Held (Has g) m → IfSome (option_map (number g) m) (λ j. j < item_count g)
 held_below g None h = tt
 held_below g (Some x) h = number-low g x h
 
@@ -130,7 +130,7 @@ module _ (file words : List ℕ) (g : Graph) (opens : Opens file words g) (answe
       ∙ ap (option_map (λ (u : Side). on_sides n s u (row_of g (rule_at r)).rule)) leads
       ∙ ap (λ (m : Option ℕ). Some (record { from = number_on g s (rule_at r).from; with = m; to = number_on g goal (rule_at r).to })) (on-twice (number g) (item_on n s) (rule_at r).with)
 
-  on-some : (f : Item → ℕ) (m : Option Item) (y : ℕ) → option_map f m ≡ Some y → (x : Item) × (m ≡ Some x) × (y ≡ f x)
+  on-some : (f : ItemPlace → ℕ) (m : Option ItemPlace) (y : ℕ) → option_map f m ≡ Some y → (x : ItemPlace) × (m ≡ Some x) × (y ≡ f x)
   on-some f None y h = absurd (cc h)
   on-some f (Some x) y h = (x, refl, cc)
 
@@ -184,7 +184,7 @@ module _ (file words : List ℕ) (g : Graph) (opens : Opens file words g) (answe
             w.premises,
       )
 
-  apart : (s u : Side) (x y : Item) → Has g x → Has g y → number_on g s x ≡ number_on g u y → (s ≡ u) × (x ≡ y)
+  apart : (s u : Side) (x y : ItemPlace) → Has g x → Has g y → number_on g s x ≡ number_on g u y → (s ≡ u) × (x ≡ y)
   apart s u x y hx hy e =
       let a = number-low g x hx in
       let b = number-low g y hy in
@@ -192,7 +192,7 @@ module _ (file words : List ℕ) (g : Graph) (opens : Opens file words g) (answe
       let local : number g x ≡ number g y = sym (digits_mod (side_number s) a) ∙ ap (λ i. i % n) e ∙ digits_mod (side_number u) b in
       (cc, number_same g x y hx hy local)
 
-  all : (i : ℕ) → i < sides * n → (s : Side) × (x : Item) × Has g x × (number_on g s x ≡ i)
+  all : (i : ℕ) → i < sides * n → (s : Side) × (x : ItemPlace) × Has g x × (number_on g s x ≡ i)
   all i h = ⊎_elim
       (λ (l : i < n). let (x, has, e) = number-all g i l in (Target, x, has, omega arith))
       (λ (l : n ≤ i). let (x, has, e) = number-all g (i - n) (omega arith) in (Host, x, has, omega arith))

@@ -3,7 +3,7 @@ use Rattle.std.proofs.Common.{◌≡◌, ℕ, zero, suc, ◌+◌, ◌-◌, ◌<�
 use Rattle.std.proofs.lemmas.Bool.{cases_lt}
 use Rattle.records.specs.Graphs.{Package, Graph}
 use Rattle.graph.specs.Law.{dependencies_in, features_in, dependency_count, feature_count}
-use Rattle.graph.specs.Places.{Item, unit, dep, feat, dependencies_of, features_of, dependencies_before, features_before, number, item_count}
+use Rattle.graph.specs.Places.{ItemPlace, unit, dep, feat, dependencies_of, features_of, dependencies_before, features_before, number, item_count}
 use Rattle.rulebook.specs.GraphRules.{Has}
 
 -- parts of the packages of a graph, of either kind, numbered one after the other
@@ -63,17 +63,17 @@ totals [] = (refl, refl)
 totals (a ∷ g) = let z = totals g in (ap (λ n. dependencies a + n) z.0, ap (λ n. features a + n) z.1)
 
 -- an item that the graph has, in these terms
-abbrev At : Graph → Item → Type 0
+abbrev At : Graph → ItemPlace → Type 0
 At g (unit p) = p < length g
 At g (dep p k) = k < sizes dependencies g p
 At g (feat p k) = k < sizes features g p
 
-at : (g : Graph) (x : Item) → Has g x → At g x
+at : (g : Graph) (x : ItemPlace) → Has g x → At g x
 at g (unit p) h = h
 at g (dep p k) h = omega (arith, (dependency-sizes g p).0)
 at g (feat p k) h = omega (arith, (feature-sizes g p).0)
 
-pub number-low : (g : Graph) (x : Item) → Has g x → number g x < item_count g
+pub number-low : (g : Graph) (x : ItemPlace) → Has g x → number g x < item_count g
 number-low g (unit p) h = omega arith
 number-low g (dep p k) h = omega (arith, part_low dependencies g p k (at g (dep p k) h), (dependency-sizes g p).1, (totals g).0)
 number-low g (feat p k) h = omega (arith, part_low features g p k (at g (feat p k) h), (feature-sizes g p).1, (totals g).1)
@@ -81,7 +81,7 @@ number-low g (feat p k) h = omega (arith, part_low features g p k (at g (feat p 
 dependency-low : (g : Graph) (p k : ℕ) → Has g (dep p k) → dependencies_before g p + k < dependency_count g
 dependency-low g p k h = omega (arith, part_low dependencies g p k (at g (dep p k) h), (dependency-sizes g p).1, (totals g).0)
 
-pub number_same : (g : Graph) (x y : Item) → Has g x → Has g y → number g x ≡ number g y → x ≡ y
+pub number_same : (g : Graph) (x y : ItemPlace) → Has g x → Has g y → number g x ≡ number g y → x ≡ y
 number_same g (unit p) (unit q) h i e = ap unit e
 number_same g (unit p) (dep q j) h i e = absurd (omega arith)
 number_same g (unit p) (feat q j) h i e = absurd (omega arith)
@@ -96,7 +96,7 @@ number_same g (feat p k) (feat q j) h i e =
     let z = part_same features g p q k j (at g (feat p k) h) (at g (feat q j) i) (omega (arith, (feature-sizes g p).1, (feature-sizes g q).1)) in
     let a = z.0 in let b = z.1 in cc
 
-pub number-all : (g : Graph) (l : ℕ) → l < item_count g → (x : Item) × Has g x × (number g x ≡ l)
+pub number-all : (g : Graph) (l : ℕ) → l < item_count g → (x : ItemPlace) × Has g x × (number g x ≡ l)
 number-all g l h = ⊎_elim
     (λ (a : l < length g). (unit l, a, refl))
     (λ (a : length g ≤ l). ⊎_elim
