@@ -1,8 +1,8 @@
 // The first reading: from bytes to packages.
-use crate::kinds::RecordKind;
 use crate::opener::fields::Fields;
 use crate::opener::graphs::{Dependency, Feature, Graph, Package};
 use crate::opener::stops::{Place, Stop, Why};
+use graph_files::RecordKind;
 use refusals::Refusal;
 use std::alloc::Global;
 use std::collections::BTreeMap;
@@ -180,7 +180,7 @@ pub fn read_graph<'a>(heap: Global, file: &'a [u8]) -> Result<(Graph<'a>, usize)
         features: 0,
     };
     let mut rest = file;
-    // a record takes bytes, so there are no more records than bytes; an iterator would hand out record, start and frame
+    // a record takes bytes, so there are no more records than bytes
     for record in 0..=file.len() {
         let start = file.len().saturating_sub(rest.len());
         let place = Place { record, start };
