@@ -1,5 +1,4 @@
 // Files opened by the library and by the second opener.
-use crate::inputs::Compare;
 use crate::opener;
 use graph::{Opened, open_graph};
 use refusals::Refusal;
@@ -33,8 +32,7 @@ fn memory(heap: Global, len: usize) -> Result<Vec<u32>, AllocError> {
         .collect(heap)
 }
 
-// Whether both openers answer the same in so many words and leave them the same; and what the second answers, which is
-// there either way, so that the flag is no Option.
+// Whether both openers answer the same in so many words and leave them the same; and what the second answers.
 fn agree(
     heap: Global,
     file: &[u8],
@@ -43,7 +41,6 @@ fn agree(
     let mut words = memory(heap, room)?;
     let mut others = words.clone()?;
     let outcome = open(file, words.as_mut_slice());
-    // no `map_err`: a stop for want of memory is no refusal
     let other = match opener::open(heap, file, others.as_mut_slice()) {
         Ok(opened) => Ok(opened),
         Err(stop) => Err(stop.refusal()?),
@@ -54,9 +51,9 @@ fn agree(
 // more words than any of the files needs
 const PLENTY: usize = 2_000;
 
-impl Compare for FileTally {
+impl FileTally {
     // With plenty of words; if the file is accepted, also with just enough and with one less.
-    fn compare(&mut self, heap: Global, file: &[u8]) -> Result<(), AllocError> {
+    pub fn compare(&mut self, heap: Global, file: &[u8]) -> Result<(), AllocError> {
         let (mut same, outcome) = agree(heap, file, PLENTY)?;
         if let Ok(opened) = outcome {
             self.accepted = self.accepted.saturating_add(1);

@@ -5,19 +5,14 @@
 
 mod compared;
 mod damaged;
-mod encode;
 mod example;
-mod inputs;
-mod kinds;
 mod opener;
 mod random;
 mod second;
 mod sketches;
 mod strings;
 
-use crate::compared::FileTally;
-use crate::inputs::compare_all;
-use crate::random::{draw_changed, draw_file};
+use crate::random::{compare_changed, compare_drawn};
 use crate::sketches::Care;
 use anyhow::Context;
 use std::env;
@@ -57,17 +52,11 @@ fn compare_tables(rt: &HostRuntime) -> anyhow::Result<()> {
 fn compare_random(rt: &HostRuntime) -> anyhow::Result<()> {
     let heap = rt.alloc();
     let count = asked_files(rt)?;
-    let lawful: FileTally = compare_all(
-        heap,
-        (0..count).map(|seed| draw_file(heap, seed, Care::Careful)),
-    )?;
+    let lawful = compare_drawn(heap, count, Care::Careful)?;
     println!(rt; "random lawful graphs: {lawful}")?;
-    let careless: FileTally = compare_all(
-        heap,
-        (0..count).map(|seed| draw_file(heap, seed, Care::Careless)),
-    )?;
+    let careless = compare_drawn(heap, count, Care::Careless)?;
     println!(rt; "random careless graphs: {careless}")?;
-    let changed: FileTally = compare_all(heap, (0..count).map(|seed| draw_changed(heap, seed)))?;
+    let changed = compare_changed(heap, count)?;
     println!(rt; "random lawful graphs, a byte changed: {changed}")?;
     Ok(())
 }

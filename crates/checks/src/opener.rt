@@ -14,20 +14,20 @@ use crate::opener::stops::{Place, Stop, Why};
 use graph::Opened;
 use std::alloc::Global;
 
-const MOST_BYTES: usize = 1_048_576;
+const MAX_BYTES: usize = 1_048_576;
 
-const MOST_ROWS: u32 = 262_144;
+const MAX_ROWS: u32 = 262_144;
 
 // What is to be answered of a file. The words are written if it is accepted.
 pub fn open(heap: Global, file: &[u8], words: &mut [u32]) -> Result<Opened, Stop> {
-    if file.len() > MOST_BYTES {
+    if file.len() > MAX_BYTES {
         return Err(Place::NONE.refusal(Why::Many, 0, 0).into());
     }
     let (graph, read) = read_graph(heap, file)?;
     look_up(&graph)?;
     let listed = list_rows(heap, &graph)?;
     let rows = u32::try_from(listed.len()).unwrap_or(u32::MAX);
-    if rows > MOST_ROWS {
+    if rows > MAX_ROWS {
         return Err(Place::NONE.refusal(Why::Many, 0, 0).into());
     }
     let mut written = vec![in heap; graph.count, graph.dependencies, graph.features, rows]?;

@@ -1,11 +1,12 @@
 // Random graphs as files.
-use crate::encode::{
-    EdgeHead, dependency_record, end_record, feature_record, header, package_record,
-};
+use crate::compared::FileTally;
 use crate::example::put;
-use crate::kinds::EdgeKind;
 use crate::sketches::{Care, Drawn, Sketch, name_of};
 use dice::Dice;
+use graph_files::{
+    DependencyHead, EdgeKind, FeatureString, dependency_record, end_record, feature_record, header,
+    package_record,
+};
 use std::alloc::{AllocError, Global};
 
 // A value in one of the four forms; a plain one where there is nothing to link to.
@@ -14,17 +15,25 @@ fn draw_value(
     names: &[usize],
     own: usize,
     edges: &[Drawn],
-) -> Result<Vec<u8>, AllocError> {
-    let heap = sketch.heap;
-    // a number of the die, as an enum would be made from it by the same match
+) -> Result<FeatureString<'static>, AllocError> {
     let form = sketch.dice.below(4);
     let link = sketch.choose_link(edges)?;
-    match (form, link) {
-        (1, Some((name, _))) => [&b"dep:"[..], name_of(name)].concat(heap),
-        (2, Some((name, Some(g)))) => [name_of(name), &b"/"[..], name_of(g)].concat(heap),
-        (3, Some((name, Some(g)))) => [name_of(name), &b"?/"[..], name_of(g)].concat(heap),
-        _ => Vec::from_slice(heap, name_of(sketch.choose(names).unwrap_or(own))),
-    }
+    Ok(match (form, link) {
+        (1, Some((name, _))) => FeatureString::Switch {
+            dependency: name_of(name),
+        },
+        (2, Some((name, Some(feature)))) => FeatureString::Strong {
+            dependency: name_of(name),
+            feature: name_of(feature),
+        },
+        (3, Some((name, Some(feature)))) => FeatureString::Weak {
+            dependency: name_of(name),
+            feature: name_of(feature),
+        },
+        _ => FeatureString::Plain {
+            feature: name_of(sketch.choose(names).unwrap_or(own)),
+        },
+    })
 }
 
 fn draw_feature(
@@ -34,7 +43,7 @@ fn draw_feature(
     edges: &[Drawn],
 ) -> Result<Vec<u8>, AllocError> {
     let heap = sketch.heap;
-    let values: Vec<Vec<u8>> = (0..sketch.dice.below(4))
+    let values: Vec<FeatureString<'static>> = (0..sketch.dice.below(4))
         .map(|_| draw_value(sketch, names, own, edges))
         .try_collect(heap)?;
     feature_record(heap, name_of(own), values.as_slice())
@@ -42,7 +51,7 @@ fn draw_feature(
 
 fn draw_dependency(sketch: &mut Sketch, edge: Drawn) -> Result<Vec<u8>, AllocError> {
     let heap = sketch.heap;
-    let head = EdgeHead {
+    let head = DependencyHead {
         end: u16::try_from(edge.end).unwrap_or(u16::MAX),
         kind: EdgeKind::ALL[sketch.dice.below(3)],
         optional: sketch.dice.coin(),
@@ -103,7 +112,7 @@ fn add_package(sketch: &mut Sketch, file: &mut Vec<u8>, package: usize) -> Resul
 }
 
 // The file of a random graph, sometimes with bytes behind it.
-pub fn draw_file(heap: Global, seed: u64, care: Care) -> Result<Vec<u8>, AllocError> {
+fn draw_file(heap: Global, seed: u64, care: Care) -> Result<Vec<u8>, AllocError> {
     let mut sketch = Sketch::new(heap, seed, care)?;
     let mut file = header(heap)?;
     for package in 0..sketch.packages() {
@@ -126,11 +135,25 @@ fn telling_byte(dice: &mut Dice) -> u8 {
         .unwrap_or(any)
 }
 
-// A lawful graph with one byte changed.
-pub fn draw_changed(heap: Global, seed: u64) -> Result<Vec<u8>, AllocError> {
-    let mut file = draw_file(heap, seed, Care::Careful)?;
-    let mut dice = Dice::new(seed);
-    let at = dice.below(file.len().max(1));
-    put(file.as_mut_slice(), at, telling_byte(&mut dice));
-    Ok(file)
+// Draws so many graphs.
+pub fn compare_drawn(heap: Global, count: u64, care: Care) -> Result<FileTally, AllocError> {
+    let mut tally = FileTally::default();
+    for seed in 0..count {
+        let file = draw_file(heap, seed, care)?;
+        tally.compare(heap, file.as_slice())?;
+    }
+    Ok(tally)
+}
+
+// Draws so many lawful graphs, and changes one byte of each.
+pub fn compare_changed(heap: Global, count: u64) -> Result<FileTally, AllocError> {
+    let mut tally = FileTally::default();
+    for seed in 0..count {
+        let mut file = draw_file(heap, seed, Care::Careful)?;
+        let mut dice = Dice::new(seed);
+        let at = dice.below(file.len().max(1));
+        put(file.as_mut_slice(), at, telling_byte(&mut dice));
+        tally.compare(heap, file.as_slice())?;
+    }
+    Ok(tally)
 }

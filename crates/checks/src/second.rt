@@ -11,7 +11,7 @@ fn is_name(text: &[u8]) -> bool {
             .all(|b| b.is_ascii_alphanumeric() || b"_-+.".contains(b))
 }
 
-// The bytes at a place of a string as a part of it, if they are a name.
+// The bytes at a place of a string as a piece of it, if they are a name.
 fn name_at<'a>(at: usize, bytes: &'a [u8]) -> Option<Piece<'a>> {
     is_name(bytes).then_some(Piece { at, bytes })
 }
@@ -48,7 +48,6 @@ fn form<'a>(text: &'a [u8]) -> Option<FeatureString<'a>> {
 
 // Whether the text with one of these completions is lawful.
 fn completes(heap: Global, text: &[u8]) -> Result<bool, AllocError> {
-    // no `any`: completing allocates, and its closure could not fail
     for more in [&b""[..], b"a", b"/a"] {
         if form([text, more].concat(heap)?.as_slice()).is_some() {
             return Ok(true);
@@ -59,7 +58,6 @@ fn completes(heap: Global, text: &[u8]) -> Result<bool, AllocError> {
 
 // The length of the longest prefix that begins some lawful string.
 fn longest_begun(heap: Global, text: &[u8]) -> Result<usize, AllocError> {
-    // no `find`, for the same reason
     for len in (0..=text.len()).rev() {
         if completes(heap, &text[..len])? {
             return Ok(len);
@@ -68,8 +66,7 @@ fn longest_begun(heap: Global, text: &[u8]) -> Result<usize, AllocError> {
     Ok(0)
 }
 
-// What is to be answered of a feature string. The outer result is that of the program's own memory;
-// the inner one is compared as a value, so that one error for both would be taken apart again.
+// What is to be answered of a feature string: the inner result. The outer one is that of the program's own memory.
 pub fn of_string<'a>(
     heap: Global,
     text: &'a [u8],

@@ -63,7 +63,6 @@ impl Sketch {
 
     // The features of a package.
     pub fn features_of(&self, package: usize) -> Result<Vec<usize>, AllocError> {
-        // no `map_or`: the copy may run out of memory
         match self.features.get(package) {
             Some(names) => names.clone(),
             None => Ok(Vec::new(self.heap)),
@@ -143,7 +142,6 @@ impl Sketch {
         edges: &[Drawn],
     ) -> Result<Option<(usize, Option<usize>)>, AllocError> {
         let names: Vec<usize> = edges.iter().map(|edge| edge.name).collect(self.heap)?;
-        // no `map`: the choice in it may run out of memory
         match self.choose(names.as_slice()) {
             Some(name) => Ok(Some((name, self.choose_common(edges, name)?))),
             None => Ok(None),

@@ -1,7 +1,7 @@
 // Sessions by the library, compared with what the second resolver expects of them.
 use crate::cases::{Case, Prospect};
 use crate::follows::World;
-use crate::ours::{Replayed, make_calls};
+use crate::ours::{Run, make_calls};
 use crate::scripts::{Pace, Script, same};
 use crate::separation::{Manner, Mistake, SPLIT, SPLIT_NO_DEV, UNIFIED, UNIFIED_NO_DEV};
 use crate::trails::{Trail, TrailTally};
@@ -66,7 +66,7 @@ impl Case {
         let mut script = Script::new(heap);
         script.play(pace, self.requests(), self.items.as_slice(), first, both)?;
         let calls = self.calls(heap, &script)?;
-        let Replayed { answers, trail } = make_calls(heap, book, calls.as_slice())?;
+        let Run { answers, trail } = make_calls(heap, book, calls.as_slice())?;
         let trail = Trail {
             world,
             items: self.items.as_slice(),

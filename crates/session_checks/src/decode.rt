@@ -1,6 +1,7 @@
 // The bytes of a lawful file, taken apart.
-use crate::spelled::{EdgeKind, Form, SpelledDependency, SpelledFeature, SpelledPackage};
+use crate::spelled::{SpelledDependency, SpelledFeature, SpelledPackage};
 use anyhow::{Context, Result, bail};
+use graph_files::{EdgeKind, FeatureString};
 use std::alloc::Global;
 
 // What is left of some bytes.
@@ -81,25 +82,31 @@ impl<'a> Cursor<'a> {
         let name = self.string()?;
         let mut values = Vec::new(heap);
         for string in self.strings(heap)? {
-            values.push(form_of(string))?;
+            values.push(value_of(string))?;
         }
         Ok(SpelledFeature { name, values })
     }
 }
 
-// The form of a feature string.
-fn form_of<'a>(string: &'a [u8]) -> Form<'a> {
-    if let Some(n) = string.strip_prefix(b"dep:") {
-        return Form::Switch { n };
+// A feature string by its form.
+fn value_of<'a>(string: &'a [u8]) -> FeatureString<'a> {
+    if let Some(dependency) = string.strip_prefix(b"dep:") {
+        return FeatureString::Switch { dependency };
     }
     let Some(slash) = string.iter().position(|byte| *byte == b'/') else {
-        return Form::Plain { g: string };
+        return FeatureString::Plain { feature: string };
     };
-    let n = &string[..slash];
-    let g = &string[slash + 1..];
-    match n.strip_suffix(b"?") {
-        Some(n) => Form::Weak { n, g },
-        None => Form::Strong { n, g },
+    let dependency = &string[..slash];
+    let feature = &string[slash + 1..];
+    match dependency.strip_suffix(b"?") {
+        Some(dependency) => FeatureString::Weak {
+            dependency,
+            feature,
+        },
+        None => FeatureString::Strong {
+            dependency,
+            feature,
+        },
     }
 }
 

@@ -1,9 +1,11 @@
 // Random lawful graphs, spelled out.
 use crate::sketches::{Edge, LATE, Shape, Sketch, dependency_name, feature_name};
-use crate::spelled::{Form, SpelledDependency, SpelledFeature, SpelledPackage};
+use crate::spelled::{SpelledDependency, SpelledFeature, SpelledPackage};
+use graph_files::FeatureString;
 use std::alloc::AllocError;
 
-type Forms = Vec<Form<'static>>;
+// A value whose names are of those that graphs are drawn with.
+type Value = FeatureString<'static>;
 
 // A feature of a package, as it is drawn: its place among the others, and the dependencies beside it.
 #[derive(Clone, Copy)]
@@ -13,34 +15,40 @@ struct Spot<'s> {
     edges: &'s [Edge],
 }
 
-fn plain(number: usize) -> Form<'static> {
-    Form::Plain {
-        g: feature_name(number),
+fn plain(number: usize) -> Value {
+    FeatureString::Plain {
+        feature: feature_name(number),
     }
 }
 
 // A value in one of the four forms; a plain one where there is nothing to link to.
-fn draw_form(sketch: &mut Sketch, spot: Spot<'_>) -> Result<Option<Form<'static>>, AllocError> {
+fn draw_value(sketch: &mut Sketch, spot: Spot<'_>) -> Result<Option<Value>, AllocError> {
     let form = sketch.dice.below(5);
     let own = sketch.dice.pick(spot.names).map(plain);
     let at = sketch.dice.below(spot.edges.len().max(1));
     let Some(edge) = spot.edges.get(at) else {
         return Ok(own);
     };
-    let n = dependency_name(edge.name);
+    let dependency = dependency_name(edge.name);
     let common = sketch.common(spot.edges, edge.name)?;
     let linked = sketch.dice.pick(common.as_slice()).map(feature_name);
     Ok(match (form, linked) {
         (0, _) => own,
-        (1, _) => Some(Form::Switch { n }),
-        (2, Some(g)) => Some(Form::Strong { n, g }),
-        (_, Some(g)) => Some(Form::Weak { n, g }),
+        (1, _) => Some(FeatureString::Switch { dependency }),
+        (2, Some(feature)) => Some(FeatureString::Strong {
+            dependency,
+            feature,
+        }),
+        (_, Some(feature)) => Some(FeatureString::Weak {
+            dependency,
+            feature,
+        }),
         _ => own,
     })
 }
 
 // The next feature of a chain or cycle.
-fn next_form(sketch: &Sketch, spot: Spot<'_>) -> Option<Form<'static>> {
+fn next_value(sketch: &Sketch, spot: Spot<'_>) -> Option<Value> {
     let next = spot.names.get(spot.at.saturating_add(1));
     match sketch.shape {
         Shape::Loose => None,
@@ -50,23 +58,23 @@ fn next_form(sketch: &Sketch, spot: Spot<'_>) -> Option<Form<'static>> {
 }
 
 // The weak value at the beginning of a late chain.
-fn early_form(sketch: &mut Sketch, spot: Spot<'_>) -> Result<Option<Form<'static>>, AllocError> {
+fn early_value(sketch: &mut Sketch, spot: Spot<'_>) -> Result<Option<Value>, AllocError> {
     if sketch.shape != Shape::Late || spot.at > 0 {
         return Ok(None);
     }
     let common = sketch.common(spot.edges, LATE)?;
     let linked = sketch.dice.pick(common.as_slice()).map(feature_name);
-    Ok(linked.map(|g| Form::Weak {
-        n: dependency_name(LATE),
-        g,
+    Ok(linked.map(|feature| FeatureString::Weak {
+        dependency: dependency_name(LATE),
+        feature,
     }))
 }
 
 // The switch at the end of a late chain.
-fn late_form(sketch: &Sketch, spot: Spot<'_>) -> Option<Form<'static>> {
+fn late_value(sketch: &Sketch, spot: Spot<'_>) -> Option<Value> {
     let last = spot.at.saturating_add(1) == spot.names.len();
-    (sketch.shape == Shape::Late && last).then_some(Form::Switch {
-        n: dependency_name(LATE),
+    (sketch.shape == Shape::Late && last).then_some(FeatureString::Switch {
+        dependency: dependency_name(LATE),
     })
 }
 
@@ -79,14 +87,14 @@ fn draw_more(sketch: &mut Sketch) -> usize {
     }
 }
 
-fn draw_values(sketch: &mut Sketch, spot: Spot<'_>) -> Result<Forms, AllocError> {
+fn draw_values(sketch: &mut Sketch, spot: Spot<'_>) -> Result<Vec<Value>, AllocError> {
     let mut values = Vec::new(sketch.heap);
-    values.extend(early_form(sketch, spot)?)?;
-    values.extend(next_form(sketch, spot))?;
+    values.extend(early_value(sketch, spot)?)?;
+    values.extend(next_value(sketch, spot))?;
     for _ in 0..draw_more(sketch) {
-        values.extend(draw_form(sketch, spot)?)?;
+        values.extend(draw_value(sketch, spot)?)?;
     }
-    values.extend(late_form(sketch, spot))?;
+    values.extend(late_value(sketch, spot))?;
     Ok(values)
 }
 

@@ -1,62 +1,19 @@
 // Spelled graphs as the bytes of files.
-use crate::spelled::{EdgeKind, Form, SpelledDependency, SpelledFeature, SpelledPackage};
+use crate::spelled::{SpelledDependency, SpelledPackage};
 use dice::Dice;
+use graph_files::{
+    DependencyHead, dependency_record, end_record, feature_record, header, package_record,
+};
 use std::alloc::{AllocError, Global};
 
-// A record of that kind.
-fn record(heap: Global, kind: u8, body: &[u8]) -> Result<Vec<u8>, AllocError> {
-    let length = u32::try_from(body.len()).unwrap_or(0).saturating_add(2);
-    [&length.to_le_bytes()[..], &[kind, 0], body].concat(heap)
-}
-
-fn count_byte(count: usize) -> u8 {
-    u8::try_from(count).unwrap_or(u8::MAX)
-}
-
-fn add_string(body: &mut Vec<u8>, string: &[u8]) -> Result<(), AllocError> {
-    body.push(count_byte(string.len()))?;
-    body.extend_from_slice(string)
-}
-
-fn dependency_record(
-    heap: Global,
-    dependency: &SpelledDependency<'_>,
-) -> Result<Vec<u8>, AllocError> {
-    let end = u16::try_from(dependency.end).unwrap_or(u16::MAX);
-    let kind = match dependency.kind {
-        EdgeKind::Normal => 0,
-        EdgeKind::Build => 1,
-        EdgeKind::Dev => 2,
+fn record_of(heap: Global, dependency: &SpelledDependency<'_>) -> Result<Vec<u8>, AllocError> {
+    let head = DependencyHead {
+        end: u16::try_from(dependency.end).unwrap_or(u16::MAX),
+        kind: dependency.kind,
+        optional: dependency.optional,
+        defaults: dependency.defaults,
     };
-    let mut body = Vec::from_slice(heap, &end.to_le_bytes())?;
-    body.push(kind)?;
-    body.push(u8::from(dependency.optional))?;
-    body.push(u8::from(dependency.defaults))?;
-    add_string(&mut body, dependency.name)?;
-    body.push(count_byte(dependency.asks.len()))?;
-    for ask in dependency.asks.iter() {
-        add_string(&mut body, ask)?;
-    }
-    record(heap, 3, body.as_slice())
-}
-
-fn spelling(heap: Global, form: Form<'_>) -> Result<Vec<u8>, AllocError> {
-    match form {
-        Form::Plain { g } => Vec::from_slice(heap, g),
-        Form::Switch { n } => [&b"dep:"[..], n].concat(heap),
-        Form::Strong { n, g } => [n, &b"/"[..], g].concat(heap),
-        Form::Weak { n, g } => [n, &b"?/"[..], g].concat(heap),
-    }
-}
-
-fn feature_record(heap: Global, feature: &SpelledFeature<'_>) -> Result<Vec<u8>, AllocError> {
-    let mut body = Vec::new(heap);
-    add_string(&mut body, feature.name)?;
-    body.push(count_byte(feature.values.len()))?;
-    for form in feature.values.iter() {
-        add_string(&mut body, spelling(heap, *form)?.as_slice())?;
-    }
-    record(heap, 4, body.as_slice())
+    dependency_record(heap, head, dependency.name, dependency.asks.as_slice())
 }
 
 // The records of a package's dependencies and features, each in order, mixed at random.
@@ -73,9 +30,9 @@ fn add_owned(
         let first = dice.coin() || features.len() == 0;
         let dependency = if first { dependencies.next() } else { None };
         let record = match dependency {
-            Some(dependency) => dependency_record(heap, dependency)?,
+            Some(dependency) => record_of(heap, dependency)?,
             None => match features.next() {
-                Some(feature) => feature_record(heap, feature)?,
+                Some(feature) => feature_record(heap, feature.name, feature.values.as_slice())?,
                 None => continue,
             },
         };
@@ -90,13 +47,12 @@ pub fn encode(
     dice: &mut Dice,
     packages: &[SpelledPackage<'_>],
 ) -> Result<Vec<u8>, AllocError> {
-    let mut file = record(heap, 1, &[1, 0])?;
+    let mut file = header(heap)?;
     for package in packages {
-        let mut body = vec![in heap; u8::from(package.proc_mark)]?;
-        add_string(&mut body, package.name)?;
-        file.extend_from_slice(record(heap, 2, body.as_slice())?.as_slice())?;
+        let record = package_record(heap, package.proc_mark, package.name)?;
+        file.extend_from_slice(record.as_slice())?;
         add_owned(heap, dice, &mut file, package)?;
     }
-    file.extend_from_slice(record(heap, 5, &[])?.as_slice())?;
+    file.extend_from_slice(end_record(heap)?.as_slice())?;
     Ok(file)
 }

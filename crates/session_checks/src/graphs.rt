@@ -1,6 +1,6 @@
 // A graph by numbers, with every name resolved.
 use crate::items::{Item, SIDES, Side};
-use crate::spelled::EdgeKind;
+use graph_files::EdgeKind;
 use std::alloc::{AllocError, Global};
 
 // A package: the numbers of what it owns.

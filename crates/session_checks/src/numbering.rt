@@ -1,7 +1,8 @@
 // Names replaced by numbers: maps from the names of each package to what it owns.
 use crate::graphs::{Dependency, Feature, Graph, Link, Package, Value};
-use crate::spelled::{Form, SpelledDependency, SpelledFeature, SpelledPackage};
+use crate::spelled::{SpelledDependency, SpelledFeature, SpelledPackage};
 use anyhow::{Context, Result};
+use graph_files::FeatureString;
 use std::alloc::{AllocError, Global};
 use std::collections::BTreeMap;
 
@@ -102,19 +103,27 @@ impl Register {
         Ok(links)
     }
 
-    fn value(&self, owner: usize, form: Form<'_>) -> Result<Value> {
-        Ok(match form {
-            Form::Plain { g } => Value::Plain(self.feature(owner, g)?),
-            Form::Switch { n } => Value::Switch(self.dependencies(owner, n)?.clone()?),
-            Form::Strong { n, g } => Value::Strong(self.links(owner, n, g)?),
-            Form::Weak { n, g } => Value::Weak(self.links(owner, n, g)?),
+    fn value(&self, owner: usize, value: FeatureString<'_>) -> Result<Value> {
+        Ok(match value {
+            FeatureString::Plain { feature } => Value::Plain(self.feature(owner, feature)?),
+            FeatureString::Switch { dependency } => {
+                Value::Switch(self.dependencies(owner, dependency)?.clone()?)
+            }
+            FeatureString::Strong {
+                dependency,
+                feature,
+            } => Value::Strong(self.links(owner, dependency, feature)?),
+            FeatureString::Weak {
+                dependency,
+                feature,
+            } => Value::Weak(self.links(owner, dependency, feature)?),
         })
     }
 
     fn number_feature(&self, owner: usize, feature: &SpelledFeature<'_>) -> Result<Feature> {
         let mut values = Vec::new(self.heap);
-        for form in feature.values.iter() {
-            values.push(self.value(owner, *form)?)?;
+        for value in feature.values.iter() {
+            values.push(self.value(owner, *value)?)?;
         }
         Ok(Feature { owner, values })
     }

@@ -26,7 +26,7 @@ pub fn open_file(heap: Global, file: &[u8]) -> Result<Option<OurGraph>, AllocErr
 
 // What calls on a new session answer, none of them if they are refused, and the trail that they leave.
 #[derive(Drop)]
-pub struct Replayed {
+pub struct Run {
     pub answers: Vec<Answer>,
     pub trail: Vec<TrailRecord>,
 }
@@ -36,7 +36,7 @@ pub fn make_calls<B: Rulebook>(
     heap: Global,
     book: &B,
     calls: &[Call<'_>],
-) -> Result<Replayed, AllocError> {
+) -> Result<Run, AllocError> {
     let count = book.items();
     let mut places = vec![in heap; UNUSED; count as usize]?;
     let mut marks = vec![in heap; None; count as usize]?;
@@ -46,5 +46,5 @@ pub fn make_calls<B: Rulebook>(
         answers.truncate(0);
     }
     let trail = Vec::from_slice(heap, session.trail())?;
-    Ok(Replayed { answers, trail })
+    Ok(Run { answers, trail })
 }

@@ -59,8 +59,8 @@ impl Expected {
 pub struct Script<'r> {
     pub calls: Vec<Call<'r>>,
     pub answers: Vec<Answer>,
-    // the steps taken by the calls so far
-    taken: u64,
+    // the steps of the calls so far
+    steps: u64,
 }
 
 impl<'r> Script<'r> {
@@ -68,7 +68,7 @@ impl<'r> Script<'r> {
         Script {
             calls: Vec::new(heap),
             answers: Vec::new(heap),
-            taken: 0,
+            steps: 0,
         }
     }
 
@@ -83,13 +83,13 @@ impl<'r> Script<'r> {
 
     // Settles where so many steps are to be taken since opening; true if nothing is pending then.
     fn settle(&mut self, budget: u32, all: u64) -> Result<bool, AllocError> {
-        let left = all.saturating_sub(self.taken);
+        let left = all.saturating_sub(self.steps);
         if left > u64::from(budget) {
-            self.taken = self.taken.saturating_add(u64::from(budget));
+            self.steps = self.steps.saturating_add(u64::from(budget));
             self.add(Call::Settle(budget), Answer::Settle(Ok(Outcome::Pending)))?;
             return Ok(false);
         }
-        self.taken = all;
+        self.steps = all;
         let outcome = Outcome::Settled(u32::try_from(left).unwrap_or(u32::MAX));
         self.add(Call::Settle(budget), Answer::Settle(Ok(outcome)))?;
         Ok(true)

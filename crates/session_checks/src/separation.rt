@@ -1,7 +1,7 @@
 // On which side a dependency's end is built, and mistakes that are easily made.
 use crate::graphs::Dependency;
 use crate::items::Side;
-use crate::spelled::EdgeKind;
+use graph_files::EdgeKind;
 
 // How sides are kept apart: whether host and target are split, and whether dev dependencies are left out.
 #[derive(Clone, Copy)]

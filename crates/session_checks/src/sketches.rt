@@ -1,6 +1,6 @@
 // Random graphs: which packages there are, with which features and dependencies.
-use crate::spelled::{EdgeKind, KINDS};
 use dice::Dice;
+use graph_files::EdgeKind;
 use std::alloc::{AllocError, Global};
 
 const FEATURES: [&[u8]; 16] = [
@@ -127,7 +127,7 @@ impl Sketch {
         Edge {
             name: self.dice.below(3),
             end: self.dice.below(self.features.len().max(1)),
-            kind: KINDS[self.dice.below(3)],
+            kind: EdgeKind::ALL[self.dice.below(3)],
             optional: self.dice.coin(),
             defaults: self.dice.coin(),
         }

@@ -1,8 +1,8 @@
 // The fields of a record, taken one after the other.
-use crate::kinds::EdgeKind;
 use crate::opener::graphs::{Form, Value};
 use crate::opener::stops::{Place, Stop, Why};
 use crate::second;
+use graph_files::EdgeKind;
 use refusals::Refusal;
 use std::alloc::Global;
 use text::{Piece, StringFault};

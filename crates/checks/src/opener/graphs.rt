@@ -1,11 +1,11 @@
 // A graph as packages that own their dependencies and features.
-use crate::kinds::EdgeKind;
 use crate::opener::stops::Place;
+use graph_files::EdgeKind;
 use std::collections::BTreeMap;
 use text::{FeatureString, Piece};
 
 // What a value with a link says: the name of dependencies, whether it turns them on, and the feature of their ends
-// that it turns on, if any. The listing asks for each apart, so that an enum of the three would be matched twice.
+// that it turns on, if any.
 #[derive(Clone, Copy)]
 pub struct Link<'a> {
     pub name: &'a [u8],
@@ -73,11 +73,11 @@ pub struct Package<'a> {
     pub proc_mark: bool,
     pub dependencies: Vec<Dependency<'a>>,
     pub features: Vec<Feature<'a>>,
-    // the number of each feature by its name; the list keeps their order, which a map has not
+    // the number of each feature by its name
     pub numbers: BTreeMap<Vec<u8>, u32>,
 }
 
-// The packages, and how many packages, dependencies and features there are: numbers of 32 bits, which a length is not.
+// The packages, and how many packages, dependencies and features there are.
 #[derive(Drop)]
 pub struct Graph<'a> {
     pub packages: Vec<Package<'a>>,

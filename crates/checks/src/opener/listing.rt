@@ -1,6 +1,6 @@
 // The rule rows of a lawful graph.
-use crate::kinds::EdgeKind;
 use crate::opener::graphs::{Dependency, Feature, Form, Graph, Link, Package};
+use graph_files::EdgeKind;
 use std::alloc::{AllocError, Global};
 
 // What a row tells of the dependency that it is about.
@@ -10,11 +10,11 @@ struct Lane {
     to_proc: bool,
 }
 
-// A row of this opener's own, so that its words are a second computation too.
+// A row, with items by number.
 #[derive(Clone, Copy)]
 pub struct Row {
     from: u32,
-    mate: Option<u32>,
+    with: Option<u32>,
     to: u32,
     lane: Option<Lane>,
     cross: bool,
@@ -67,7 +67,7 @@ fn lane_word(lane: Option<Lane>) -> u32 {
 pub fn words_of(row: &Row) -> [u32; 5] {
     [
         row.from,
-        row.mate.unwrap_or(u32::MAX),
+        row.with.unwrap_or(u32::MAX),
         row.to,
         lane_word(row.lane),
         u32::from(row.cross),
@@ -78,7 +78,7 @@ pub fn words_of(row: &Row) -> [u32; 5] {
 fn lone(from: u32, to: u32, lane: Option<Lane>, cross: bool) -> Row {
     Row {
         from,
-        mate: None,
+        with: None,
         to,
         lane,
         cross,
@@ -134,7 +134,7 @@ impl<'g, 'a> Listing<'g, 'a> {
             let to = link.feature.and_then(|g| graph.item_of(end, g));
             self.rows.extend(to.map(|to| Row {
                 from,
-                mate: Some(item),
+                with: Some(item),
                 to,
                 lane: Some(lane),
                 cross: true,

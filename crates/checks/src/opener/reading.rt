@@ -1,17 +1,17 @@
 // The first reading: from bytes to packages.
-use crate::kinds::RecordKind;
 use crate::opener::fields::Fields;
 use crate::opener::graphs::{Dependency, Feature, Graph, Package};
 use crate::opener::stops::{Place, Stop, Why};
+use graph_files::RecordKind;
 use refusals::Refusal;
 use std::alloc::Global;
 use std::collections::BTreeMap;
 
-const MOST_PACKAGES: u32 = 4_096;
+const MAX_PACKAGES: u32 = 4_096;
 
-const MOST_DEPENDENCIES: u32 = 16_384;
+const MAX_DEPENDENCIES: u32 = 16_384;
 
-const MOST_FEATURES: u32 = 16_384;
+const MAX_FEATURES: u32 = 16_384;
 
 // A record: the number of its kind, the bytes of its fields, and what follows it.
 #[derive(Clone, Copy)]
@@ -150,18 +150,18 @@ fn read_record<'a>(
     match kind {
         RecordKind::Header => read_header(fields)?,
         RecordKind::Package => {
-            let number = one_more(place, &mut graph.count, MOST_PACKAGES)?;
+            let number = one_more(place, &mut graph.count, MAX_PACKAGES)?;
             graph.packages.push(read_package(heap, fields, number)?)?;
         }
         RecordKind::Dependency => {
-            let number = one_more(place, &mut graph.dependencies, MOST_DEPENDENCIES)?;
+            let number = one_more(place, &mut graph.dependencies, MAX_DEPENDENCIES)?;
             let owner = last_package(&mut graph.packages, place)?;
             owner
                 .dependencies
                 .push(read_dependency(heap, fields, number)?)?;
         }
         RecordKind::Feature => {
-            let number = one_more(place, &mut graph.features, MOST_FEATURES)?;
+            let number = one_more(place, &mut graph.features, MAX_FEATURES)?;
             let owner = last_package(&mut graph.packages, place)?;
             read_feature(heap, fields, owner, number)?;
         }
@@ -180,7 +180,7 @@ pub fn read_graph<'a>(heap: Global, file: &'a [u8]) -> Result<(Graph<'a>, usize)
         features: 0,
     };
     let mut rest = file;
-    // a record takes bytes, so there are no more records than bytes; an iterator would hand out record, start and frame
+    // a record takes bytes, so there are no more records than bytes
     for record in 0..=file.len() {
         let start = file.len().saturating_sub(rest.len());
         let place = Place { record, start };

@@ -1,4 +1,4 @@
-// Why the second opener stops. The program `demo` has the like, and no crate below both may speak of memory.
+// Why the second opener stops.
 use refusals::Refusal;
 use std::alloc::{AllocError, AllocFailed};
 
