@@ -53,15 +53,17 @@ fn without(heap: Global, left_out: usize) -> Result<Vec<usize>, AllocError> {
     Ok(order)
 }
 
-// The records in that order, and one more put before each of them, and at the end.
+// The records in that order, and one more put before each of them, and at the end; with one record left out, at the end
+// twice.
 fn compare_more(
     heap: Global,
     tally: &mut FileTally,
     order: &[usize],
     more: usize,
 ) -> Result<(), AllocError> {
-    for at in 0..=order.len() {
-        let numbers = [&order[..at], &[more], &order[at..]].concat(heap)?;
+    for at in 0..=ALL.len() {
+        let (before, after) = order.split_at(at.min(order.len()));
+        let numbers = [before, &[more], after].concat(heap)?;
         let file = joined(heap, numbers.as_slice())?;
         tally.compare(heap, file.as_slice())?;
     }
