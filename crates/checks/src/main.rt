@@ -16,12 +16,21 @@ use crate::random::{compare_changed, compare_drawn};
 use crate::sketches::Care;
 use anyhow::Context;
 use std::env;
+use std::env::{Env, FillError};
 
 // How many random files of each kind there are without an argument.
 const FILES: u64 = 1_000;
 
+// Whether nothing follows the program's name, which is not read: it may be any bytes.
+fn is_alone(rt: &HostRuntime) -> bool {
+    matches!(rt.arg(1, &mut []), Err(FillError::NotPresent))
+}
+
 // The number of files: that of the first argument after the program's name.
 fn asked_files(rt: &HostRuntime) -> anyhow::Result<u64> {
+    if is_alone(rt) {
+        return Ok(FILES);
+    }
     match env::args(rt)?.nth(1) {
         Some(argument) => argument
             .parse::<u64>()

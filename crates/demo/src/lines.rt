@@ -1,6 +1,9 @@
 // The lines that are printed of a graph file.
+ghost use Rattle.std.specs.Prelude.{◌≡◌};
+ghost use Rattle.graph.specs.Words.{lane_word};
+
 use graph::{ItemRule, Opened, Row};
-use lanes::LANES;
+use lanes::{LANES, Lane};
 use rulebook::{RowEntry, WatchEntry};
 use session::{Reason, TrailRecord};
 use std::fmt;
@@ -35,12 +38,19 @@ pub struct RowLine {
     pub row: Row,
 }
 
+// The number that is printed of a lane: what stands for it in the words of a row.
+fn lane_number(lane: Option<Lane>) -> u32
+    ensures { result ≡ lane_word lane }
+{
+    lane.map_or(LANES, u32::from)
+}
+
 impl fmt::Display for RowLine {
     fn fmt<W: fmt::Write>(&self, f: &mut fmt::Formatter<W>) -> fmt::Result {
         let RowLine { number, row } = *self;
         let Row { rule, lane, cross } = row;
         let ItemRule { from, with, to } = rule;
-        let (lane, cross) = (lane.map_or(LANES, u32::from), u32::from(cross));
+        let (lane, cross) = (lane_number(lane), u32::from(cross));
         write!(f, "row {number}: from {from} with ")?;
         match with {
             Some(with) => write!(f, "{with}")?,

@@ -1,18 +1,28 @@
 -- Filling the index of dependencies from the last record to the first.
-use Rattle.std.proofs.Common.{◌≡◌, ℕ, zero, suc, ◌+◌, ◌<◌, ◌≤◌, List, [], ◌∷◌, ◌++◌, map, length, get_or, take, drop, reverse, Some, sym, refl, ap, ◌∙◌, arith}
+use Rattle.std.proofs.Common.{◌≡◌, ℕ, zero, suc, ◌+◌, ◌<◌, ◌≤◌, List, [], ◌∷◌, ◌++◌, map, length, get_or, take, drop, reverse, sym, refl, ap, ◌∙◌, arith}
 use Rattle.std.proofs.lemmas.List.{append-nil, append_assoc, map-append, length-append, length-map, length-reverse, length-take, take-take, get_or-take, reverse-append, at_drop_more}
 use Rattle.std.proofs.Math.Seq.{take-append_seam, get_or-append_seam}
 use Rattle.records.specs.Graphs.{Declaration, dependency, feature, Graph}
+use Rattle.records.specs.Encoding.{string, list_bytes, dependency_body, feature_body}
+use Rattle.records.specs.Frames.{frame_of}
+use Rattle.records.proofs.Framing.{frame-reads}
+use Rattle.records.proofs.CodedFields.{name-coded}
 use Rattle.graph.specs.declared.tables.DeclarationEntry.{DeclarationEntry}
 use Rattle.graph.specs.declared.tables.Directory.{Directory}
-use Rattle.graph.specs.Depending.{owned, depending, dependency_key, key_if, last_keys}
-use Rattle.graph.specs.Directory.{no_declaration_entry, no_place, Places, Tells}
+use Rattle.graph.specs.Depending.{owned, depending, dependency_key, named_key, key_in, key_if, last_keys}
+use Rattle.graph.specs.Directory.{RecordAt, no_declaration_entry, no_place, Places, Tells}
 use Rattle.graph.specs.Keys.{Key}
 use Rattle.graph.specs.Law.{dependencies_in, dependency_count}
-use Rattle.graph.specs.Declarations.{declaration_in}
 use Rattle.graph.specs.Second.{DeclarationPlace, places_in_package, places_from, declaration_places, package_record, declarations_length}
 use Rattle.graph.proofs.DependingPlaces.{depending-length}
-use Rattle.graph.proofs.PartsAgain.{stands-reads}
+
+-- the front of a record that stands at a place gives its package and name, if it is a dependency
+front-key : (file : List ℕ) (start p : ℕ) (x : Declaration) → RecordAt file start x → key_in p (frame_of (drop start file)) ≡ key_if p x
+front-key file start p (dependency d) s =
+    ap (λ bs. key_in p (frame_of bs)) s.bytes
+    ∙ ap (key_in p) (frame-reads 3 (dependency_body d) s.rest)
+    ∙ ap (named_key p) (name-coded.complete d.name (list_bytes string d.asks) 11 s.lawful.1)
+front-key file start p (feature f) s = ap (λ bs. key_in p (frame_of bs)) s.bytes ∙ ap (key_in p) (frame-reads 4 (feature_body f) s.rest)
 
 -- the keys of one record more
 pub keys-more : (xs : List DeclarationPlace) (j : ℕ) → j < length xs → last_keys (drop j xs) ≡ last_keys (drop (j + 1) xs) ++ key_if (get_or xs j no_place).owner (get_or xs j no_place).declaration
@@ -47,7 +57,7 @@ module _ (declarations : List DeclarationEntry) (n : ℕ) (before after : List D
       ∙ get_or-take n declarations (length after) no_declaration_entry within
 
   -- the index with the keys of that entry has those behind the entries that are left
-  module _ (file : List ℕ) (ks more : List Key) (so_far : (xs : List DeclarationPlace) → Places file declarations n xs → ks ≡ last_keys (drop (length before) xs)) (given : (p : Declaration) → declaration_in (drop x.start file) ≡ Some p → more ≡ key_if x.owner p) (xs : List DeclarationPlace) (told : Places file declarations n xs) where
+  module _ (file : List ℕ) (ks more : List Key) (so_far : (xs : List DeclarationPlace) → Places file declarations n xs → ks ≡ last_keys (drop (length before) xs)) (given : more ≡ key_in x.owner (frame_of (drop x.start file))) (xs : List DeclarationPlace) (told : Places file declarations n xs) where
     abbrev j : ℕ
     j = length after
 
@@ -57,9 +67,8 @@ module _ (declarations : List DeclarationEntry) (n : ℕ) (before after : List D
     pub turn-keys : ks ++ more ≡ last_keys (drop j xs)
     turn-keys =
         let l : j < length xs = omega (arith, within, told.count) in
-        let own : x.owner ≡ (get_or xs j no_place).owner = ap (λ e. e.owner) entry-at ∙ told.owners j l in
-        let reads = ap (λ e. declaration_in (drop e.start file)) entry-at ∙ told.declarations j l in
-        (λ i. behind i ++ (given _ reads ∙ ap (λ o. key_if o (get_or xs j no_place).declaration) own) i)
+        let own = ap (λ e. key_in e.owner (frame_of (drop e.start file))) entry-at ∙ told.keys j l in
+        (λ i. behind i ++ (given ∙ own) i)
         ∙ sym (keys-more xs j l)
 
     -- and so there is room for them
@@ -97,8 +106,8 @@ placed-keys g = from-keys 1 _ 0 g
 pub all-places : (dir : Directory) (g : Graph) → Tells dir g → (n : ℕ) → n ≡ length (declaration_places g) → Places dir.index.file.now dir.declarations n (declaration_places g)
 all-places dir g t n all = record {
   count = all;
-  owners = λ j l. ap (λ e. e.owner) (t.parted j l).1;
-  declarations = λ j l. stands-reads _ _ _ (t.parted j l).0;
+  keys = λ j l.
+      front-key _ _ _ _ (t.parted j l).0 ∙ ap (λ e. key_if e.owner (get_or (declaration_places g) j no_place).declaration) (t.parted j l).1;
 }
 
 -- what is named of a graph is as much as there is

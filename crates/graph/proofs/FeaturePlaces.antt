@@ -152,8 +152,8 @@ finds-item entries n g q name None l e law f =
 finds-item entries n g q name (Some k) l e law f =
     let w : k < n = f.0 in
     let is : get_or (keys_from 0 g) k (key_of blank) ≡ key_of (entry_at entries k) = ap (λ ks. get_or ks k (key_of blank)) (sym e) ∙ keys-at entries n k l w in
-    let b = and_parts (eqb (entry_at entries k).key.owner q) (bytes_eq (key_of (entry_at entries k)).name name) f.1 in
-    let o : (entry_at entries k).key.owner ≡ q = eqb-true (entry_at entries k).key.owner q b.0 in
+    let b = and_parts (eqb (entry_at entries k).owner q) (bytes_eq (key_of (entry_at entries k)).name name) f.1 in
+    let o : (entry_at entries k).owner ≡ q = eqb-true (entry_at entries k).owner q b.0 in
     let own : (get_or (keys_from 0 g) k (key_of blank)).owner ≡ 0 + q = ap (λ x. x.owner) is ∙ o ∙ (let z : q ≡ 0 + q = omega arith in z) in
     let m : k < length (keys_from 0 g) = omega (arith, ap length e, keys_length entries n l) in
     let h = key-of 0 g q k (key_of blank) m own in

@@ -1,6 +1,7 @@
 -- What a filled directory tells of the graph of its file.
-use Rattle.std.proofs.Common.{◌≡◌, ℕ, ◌+◌, ◌-◌, ◌<◌, ◌≤◌, List, ◌∷◌, Some, Option, length, get_or, take, drop, sym, ap, ◌∙◌, subst, arith, option_map}
+use Rattle.std.proofs.Common.{◌≡◌, ℕ, ◌+◌, ◌-◌, ◌<◌, ◌≤◌, true, false, eqb, List, ◌∷◌, Some, Option, length, get_or, take, drop, sym, ap, ◌∙◌, subst, arith, option_map}
 use Rattle.std.proofs.lemmas.List.{get_or-take, get_or-drop, length-take-le, length-drop}
+use Rattle.std.proofs.lemmas.Bool.{and_parts, eqb-true}
 use Rattle.std.proofs.Math.Logic.{∥∥₁_elim}
 use Rattle.std.proofs.Props.{props}
 use Rattle.records.specs.Graphs.{dependency, feature, Graph}
@@ -11,14 +12,15 @@ use Rattle.graph.specs.Directory.{Tells, no_package, no_declaration_entry, no_de
 use Rattle.graph.specs.RowLists.{its, ReadsAs, PlacedAs}
 use Rattle.graph.specs.Law.{dependency_count, feature_count}
 use Rattle.graph.specs.Places.{feat, dependencies_of, features_of, package_at, number, dependencies_before, features_before, no_dependency, no_feature}
-use Rattle.graph.specs.Buckets.{past, newest_of, IsEntry}
+use Rattle.graph.specs.Keys.{is_key}
+use Rattle.graph.specs.Buckets.{key_of, entry_at, past, newest_of, IsEntry}
 use Rattle.graph.specs.Namesakes.{among_from, namesakes}
 use Rattle.graph.specs.Rules.{place_of}
 use Rattle.graph.specs.Second.{declaration_places}
 use Rattle.graph.proofs.DependingPlaces.{depending-at, depending-length, all-namesakes}
-use Rattle.graph.proofs.NamesakesLeft.{all-named, from_end, from-newest, next-left}
+use Rattle.graph.proofs.NamesakesLeft.{all-named, entry-named, from_end, from-newest, next-left}
 use Rattle.graph.proofs.FeaturePlaces.{finds-item}
-use Rattle.graph.proofs.Links.{found}
+use Rattle.graph.proofs.Links.{found, not-here, skips-to}
 use Rattle.graph.proofs.PartsAgain.{stands-reads}
 use Rattle.graph.proofs.Sets.{option-set}
 
@@ -90,6 +92,28 @@ module _ (x : Filled) where
   -- and an entry of it is the next one
   pub next-of-name : (p : ℕ) (n : List ℕ) (k : ℕ) → IsEntry dir.named.lists.entries dir.named.lists.count p n k → among_from graph p n (length (depending 0 graph) - past (Some k)) ≡ from_end graph k ∷ among_from graph p n (length (depending 0 graph) - past (newest_of dir.named.lists.entries p n k))
   next-of-name p n k is = from-names (hlevel props) (λ named. next-left dir.named graph named p n k (omega (arith, is.0, names-count)) is.1)
+
+  -- an entry of package p is among those of the package
+  pub own-entry : (p : ℕ) (n : List ℕ) (k : ℕ) → k < length (depending 0 graph) → is_key p n (key_of (entry_at dir.named.lists.entries k)) ≡ true → (length (depending 0 graph) - (dependencies_before graph p + length (dependencies_of graph p)) ≤ k) × (k < length (depending 0 graph) - dependencies_before graph p)
+  own-entry p n k l e = from-names (hlevel props) (λ named.
+      let all = depending 0 graph in
+      let i : ℕ = length all - 1 - k in
+      let a = depending-at 0 graph i (omega arith) in
+      let key = entry-named dir.named graph named k l in
+      let own : (key_of (entry_at dir.named.lists.entries k)).owner ≡ p = eqb-true _ _ (and_parts (eqb (key_of (entry_at dir.named.lists.entries k)).owner p) _ e).0 in
+      let of : (get_or all i no_depending).owner ≡ 0 + a.0 = ap (λ x. x.owner) a.4 in
+      let same : (key_of (entry_at dir.named.lists.entries k)).owner ≡ (get_or all i no_depending).owner = ap (λ x. x.owner) key in
+      let q : a.0 ≡ p = omega (arith, of, same, own) in
+      let size : a.1 < length (dependencies_of graph p) = subst (λ y. a.1 < length (dependencies_of graph y)) q a.2 in
+      let at : i ≡ dependencies_before graph p + a.1 = a.3 ∙ ap (λ y. dependencies_before graph y + a.1) q in
+      (omega arith, omega arith))
+
+  -- so none before or behind them has a key of the package
+  pub none-low : (p : ℕ) (n : List ℕ) (low k : ℕ) → low ≡ length (depending 0 graph) - (dependencies_before graph p + length (dependencies_of graph p)) → k < low → is_key p n (key_of (entry_at dir.named.lists.entries k)) ≡ false
+  none-low p n low k is l = not-here dir.named.lists.entries p n k (λ e. omega (arith, is, (own-entry p n k (omega (arith, is)) e).0))
+
+  pub none-high : (p : ℕ) (n : List ℕ) (high : ℕ) → high ≡ length (depending 0 graph) - dependencies_before graph p → newest_of dir.named.lists.entries p n high ≡ newest_of dir.named.lists.entries p n dir.named.lists.count
+  none-high p n high is = skips-to dir.named.lists.entries p n high dir.named.lists.count (omega (arith, is, names-count)) (λ k l m. not-here dir.named.lists.entries p n k (λ e. omega (arith, is, (own-entry p n k (omega (arith, names-count)) e).1)))
 
   pub feature-read : (p k : ℕ) → k < length (features_of graph p) → ReadsAs x (get_or dir.features (features_before graph p + k) 0) (feature (get_or (features_of graph p) k no_feature))
   feature-read p k l = from-tables (option-set _ _) (λ t. stands-reads _ _ _ (t.featuring p k l))

@@ -49,7 +49,7 @@ module _ (entries : List IndexEntry) (owner : ℕ) (name : List ℕ) where
   abbrev here : ℕ → Bool
   here k = is_key owner name (key_of (entry_at entries k))
 
-  not-here : (k : ℕ) → (here k ≡ true → ⊥) → here k ≡ false
+  pub not-here : (k : ℕ) → (here k ≡ true → ⊥) → here k ≡ false
   not-here k f = ⊎_elim (λ (e : here k ≡ true). absurd (f e)) (λ (e : here k ≡ false). e) (cases_Bool (here k))
 
   newest-finds : (n : ℕ) → Finds entries n owner name (newest_of entries owner name n)
@@ -71,7 +71,7 @@ module _ (entries : List IndexEntry) (owner : ℕ) (name : List ℕ) where
       let z : lo + suc m ≡ suc (lo + m) = omega arith in
       ap (newest_of entries owner name) z ∙ cond-false _ _ _ (h (lo + m) (omega arith) (omega arith)) ∙ skips lo m (λ k l u. h k l (omega arith))
 
-  skips-to : (lo hi : ℕ) → lo ≤ hi → ((k : ℕ) → lo ≤ k → k < hi → here k ≡ false) → newest_of entries owner name lo ≡ newest_of entries owner name hi
+  pub skips-to : (lo hi : ℕ) → lo ≤ hi → ((k : ℕ) → lo ≤ k → k < hi → here k ≡ false) → newest_of entries owner name lo ≡ newest_of entries owner name hi
   skips-to lo hi l h =
       let z : lo + (hi - lo) ≡ hi = omega arith in
       sym (skips lo (hi - lo) (λ k a b. h k a (omega arith))) ∙ ap (newest_of entries owner name) z

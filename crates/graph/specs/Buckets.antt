@@ -1,5 +1,5 @@
 -- The index that finds features, or dependencies, by package and name: lists of entries, one for each bucket.
-use Rattle.std.specs.Prelude.{◌≡◌, ℕ, zero, suc, ◌+◌, ◌*◌, ◌%◌, ◌<◌, true, cond, List, [], map, length, take, Some, None, Option, slice_index_or}
+use Rattle.std.specs.Prelude.{◌≡◌, ℕ, zero, suc, ◌+◌, ◌*◌, ◌%◌, ◌<◌, Bool, true, false, cond, List, [], map, length, take, Some, None, Option, slice_index_or}
 use Rattle.std.specs.List.{fold}
 use Rattle.graph.specs.declared.index.IndexEntry.{IndexEntry}
 use Rattle.graph.specs.declared.index.Key as code
@@ -25,10 +25,10 @@ abbrev pub key_view : code.Key → Key
 key_view k = record { owner = k.owner; name = k.name.now }
 
 abbrev pub key_of : IndexEntry → Key
-key_of e = key_view e.key
+key_of e = record { owner = e.owner; name = e.name.now }
 
 abbrev pub blank : IndexEntry
-blank = record { key = record { owner = 0; name = record { ref_ptr = (0, 0); now = [] } }; next = None }
+blank = record { name = record { ref_ptr = (0, 0); now = [] }; owner = 0; next = None }
 
 abbrev pub entry_at : List IndexEntry → ℕ → IndexEntry
 entry_at entries k = slice_index_or entries k blank
@@ -61,6 +61,12 @@ pub record Linked (entries : List IndexEntry) (heads : List (Option ℕ)) (n : �
 abbrev pub newest_of : List IndexEntry → ℕ → List ℕ → ℕ → Option ℕ
 newest_of entries owner name zero = None
 newest_of entries owner name (suc n) = cond (is_key owner name (key_of (entry_at entries n))) (Some n) (newest_of entries owner name n)
+
+-- whether a list has more than so many entries, from one of them on
+abbrev pub is_longer : List IndexEntry → Option ℕ → ℕ → Bool
+is_longer entries None n = false
+is_longer entries (Some k) zero = true
+is_longer entries (Some k) (suc n) = is_longer entries (entry_at entries k).next n
 
 -- entry k, one of the first n, has a key; and an entry, if any, is one of the bucket of a key
 abbrev pub IsEntry : List IndexEntry → ℕ → ℕ → List ℕ → ℕ → Type 0

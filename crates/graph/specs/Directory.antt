@@ -1,7 +1,8 @@
 -- What a directory tells of the graph of its file.
-use Rattle.std.specs.Prelude.{◌≡◌, ℕ, ◌+◌, ◌<◌, false, List, ◌++◌, length, drop, Some, Ok, Err, Result, slice_index, slice_index_or}
+use Rattle.std.specs.Prelude.{◌≡◌, ℕ, ◌+◌, ◌<◌, false, List, ◌++◌, length, drop, Ok, Err, Result, slice_index, slice_index_or}
 use Rattle.records.specs.Graphs.{Declaration, dependency, feature, Graph}
 use Rattle.records.specs.Encoding.{declaration_bytes, encode}
+use Rattle.records.specs.Frames.{frame_of}
 use Rattle.graph.specs.declared.contents.Counts.{Counts}
 use Rattle.graph.specs.declared.faults.FileFault.{FileFault}
 use Rattle.graph.specs.declared.index.Index.{Index}
@@ -10,9 +11,8 @@ use Rattle.graph.specs.declared.tables.DeclarationEntry.{DeclarationEntry}
 use Rattle.graph.specs.declared.tables.Directory.{Directory}
 use Rattle.graph.specs.Reading.{first_reading}
 use Rattle.graph.specs.Law.{LawfulDeclaration, Says, dependency_count, feature_count}
-use Rattle.graph.specs.Depending.{Depending, owned, Indexed}
+use Rattle.graph.specs.Depending.{Depending, owned, key_in, key_if, Indexed}
 use Rattle.graph.specs.Gathered.{keys_from}
-use Rattle.graph.specs.Declarations.{declaration_in}
 use Rattle.graph.specs.Places.{no_dependency, no_feature, dependencies_of, features_of, package_at, dependencies_before, features_before}
 use Rattle.graph.specs.Second.{DeclarationPlace, declaration_places}
 use Rattle.graph.specs.Views.{keys}
@@ -36,11 +36,10 @@ no_depending = owned 0 no_dependency
 abbrev pub no_place : DeclarationPlace
 no_place = record { number = 0; start = 0; owner = 0; declaration = dependency no_dependency }
 
--- the first n entries of the table of all records are those of these records
+-- the first n entries of the table of all records are those of these records, as far as package and name go
 pub record Places (file : List ℕ) (entries : List DeclarationEntry) (n : ℕ) (xs : List DeclarationPlace) : Type 0 where
   pub count : n ≡ length xs
-  pub owners : (j : ℕ) → j < length xs → (slice_index_or entries j no_declaration_entry).owner ≡ (slice_index_or xs j no_place).owner
-  pub declarations : (j : ℕ) → j < length xs → declaration_in (drop (slice_index_or entries j no_declaration_entry).start file) ≡ Some (slice_index_or xs j no_place).declaration
+  pub keys : (j : ℕ) → j < length xs → key_in (slice_index_or entries j no_declaration_entry).owner (frame_of (drop (slice_index_or entries j no_declaration_entry).start file)) ≡ key_if (slice_index_or xs j no_place).owner (slice_index_or xs j no_place).declaration
 
 -- the first reading has accepted the graph g of the file, and leaves this index and these counts
 pub record Accepted (index : Index) (counts : Counts) (g : Graph) : Type 0 where

@@ -1,30 +1,31 @@
 // Filling a directory: one pass over the records of a file that the first reading has accepted.
-ghost use Rattle.std.specs.Prelude.{◌≡◌, ◌+◌, ◌≤◌, List, length, drop, Some, Ok, ◌≢◌};
+ghost use Rattle.std.specs.Prelude.{◌≡◌, ℕ, ◌+◌, ◌^◌, ◌<◌, ◌≤◌, List, length, drop, Some, Ok, ◌≢◌};
 ghost use Rattle.records.specs.declared.frames.Kind.TheVariants.{End};
 ghost use Rattle.records.specs.Frames.{kind_at, frame as frame_view, frame_of};
 ghost use Rattle.records.specs.Encoding.{Bytes};
-ghost use Rattle.records.specs.Graphs.{Graph, Declaration};
-ghost use Rattle.graph.specs.Depending.{key_if, last_keys};
+ghost use Rattle.records.specs.Graphs.{Graph};
+ghost use Rattle.graph.specs.Depending.{name_in, named_key, key_in, last_keys};
 ghost use Rattle.graph.specs.Directory.{Places, Accepted, Tells, ReadAs};
 ghost use Rattle.graph.specs.Buckets.{key_view};
 ghost use Rattle.graph.specs.Limits.{max_dependencies, max_declarations};
-ghost use Rattle.graph.specs.Declarations.{declaration_in};
 ghost use Rattle.graph.specs.Rules.{when_some};
 ghost use Rattle.graph.specs.Second.{DeclarationPlace};
 ghost use Rattle.graph.specs.Views.{keys};
 ghost use Rattle.graph.specs.Filling.{is_marked, tables_of, Midway};
 
-use crate::contents::{Counts, DeclarationRecord};
-use crate::declarations::declaration_at;
+use crate::contents::Counts;
 use crate::faults::FileFault;
 use crate::index::{Index, Key};
 use crate::limits::{MAX_DECLARATIONS, MAX_DEPENDENCIES, MAX_FEATURES, MAX_PACKAGES};
 use crate::reading::first_reading;
 use crate::tables::{DeclarationEntry, Directory, PackageEntry};
-use records::{Frame, Kind, first_frame};
+use records::{Frame, Kind, Reader, first_frame};
 
 // The records after the header begin here.
 const HEADER_BYTES: usize = 8;
+
+// The kind of a dependency record.
+const DEPENDENCY: u16 = 3;
 
 // Whether the first byte is 1, as the proc mark of a package is.
 fn is_marked(body: &[u8]) -> bool
@@ -33,17 +34,44 @@ fn is_marked(body: &[u8]) -> bool
     matches!(body, [1, ..])
 }
 
-// The package and name of a record, if it is a dependency.
-fn key_of<'a>(file: &'a [u8], entry: DeclarationEntry) -> Option<Key<'a>>
-    ensures { (x : Declaration) → declaration_in (drop entry.start file.now) ≡ Some x → when_some result key_view ≡ key_if entry.owner x }
+// The name of a dependency by the body of its record: behind its end, edge kind and both switches.
+fn dependency_name<'a>(body: &'a [u8]) -> Option<&'a [u8]>
+    requires { length body.now + 6 < 2 ^ 63 }
+    ensures { (p : ℕ) → when_some result (λ n. record { owner = p; name = n.now }) ≡ named_key p (name_in body.now) }
 {
-    match declaration_at(file, entry.start as usize)? {
-        DeclarationRecord::Dependency(d) => Some(Key {
-            owner: entry.owner,
-            name: d.name.bytes,
-        }),
-        DeclarationRecord::Feature(_) => None,
+    let mut rest = Reader {
+        rest: body.get(5..)?,
+        at: 11,
+    };
+    let name = rest.name().ok()?;
+    Some(name.bytes)
+}
+
+// The package and name of a record of a package, if it is a dependency. Nothing else of the record is looked at.
+fn key_in<'a>(owner: u32, frame: Frame<'a>) -> Option<Key<'a>>
+    requires { length frame.body.now + 6 < 2 ^ 63 }
+    ensures { when_some result key_view ≡ key_in owner (Ok (frame_view frame.entry)) }
+{
+    if frame.kind == DEPENDENCY {
+        let name = dependency_name(frame.body)?;
+        Some(Key { owner, name })
+    } else {
+        None
     }
+}
+
+// The same of the record at the front of some bytes.
+fn first_key<'a>(owner: u32, bytes: &'a [u8]) -> Option<Key<'a>>
+    ensures { when_some result key_view ≡ key_in owner (frame_of bytes.now) }
+{
+    key_in(owner, first_frame(bytes).ok()?)
+}
+
+// The same of the record of an entry.
+fn key_of<'a>(file: &'a [u8], entry: DeclarationEntry) -> Option<Key<'a>>
+    ensures { when_some result key_view ≡ key_in entry.owner (frame_of (drop entry.start file.now)) }
+{
+    first_key(entry.owner, file.get(entry.start as usize..)?)
 }
 
 // Fills the index of dependencies from so many records of the file, from the last one to the first.

@@ -1,6 +1,6 @@
 // An index of the features, or of the dependencies, of a graph file, by package and name.
-ghost use Rattle.std.specs.Prelude.{◌≤◌};
-ghost use Rattle.graph.specs.Buckets.{Linked};
+ghost use Rattle.std.specs.Prelude.{◌≡◌, ◌≤◌};
+ghost use Rattle.graph.specs.Buckets.{key_view, key_of, Linked};
 ghost use Rattle.graph.specs.Limits.{max_features};
 ghost use Rattle.std.proofs.Props.{props};
 
@@ -19,11 +19,25 @@ pub struct Key<'a> {
     pub name: &'a [u8],
 }
 
-// A feature or dependency, and the number of the entry before it in its bucket's list.
+// A feature or dependency by its name and package, and the number of the entry before it in its bucket's list. The fields
+// of the key stand here by themselves, and the largest first: so an entry takes 24 bytes, and with a key in it 32.
 #[derive(Clone, Copy)]
 pub struct IndexEntry<'a> {
-    pub key: Key<'a>,
+    pub name: &'a [u8],
+    pub owner: u32,
     pub next: Option<u16>,
+}
+
+impl<'a> IndexEntry<'a> {
+    // What it is found by.
+    pub(crate) fn key(&self) -> Key<'a>
+        ensures { key_view result ≡ key_of self.now }
+    {
+        Key {
+            owner: self.owner,
+            name: self.name,
+        }
+    }
 }
 
 // The entries so far, by number; and for each bucket the number of its newest entry. The memory is fixed, since the

@@ -1,7 +1,7 @@
 // Finding features and dependencies in an index, and adding to it.
-ghost use Rattle.std.specs.Prelude.{◌≡◌, ℕ, ◌+◌, ◌<◌, [], ◌∷◌, ◌++◌, length, nat_le};
+ghost use Rattle.std.specs.Prelude.{◌≡◌, ℕ, ◌+◌, ◌<◌, ◌≤◌, false, [], ◌∷◌, ◌++◌, length, nat_le};
 ghost use Rattle.graph.specs.Keys.{is_key, has_key};
-ghost use Rattle.graph.specs.Buckets.{buckets, key_of, key_view, keys_of, entry_at, bucket_of, past, Linked, newest_of, IsEntry, InBucket};
+ghost use Rattle.graph.specs.Buckets.{buckets, key_of, key_view, keys_of, entry_at, bucket_of, head_of, past, Linked, newest_of, is_longer, IsEntry, InBucket};
 ghost use Rattle.graph.specs.Limits.{max_features};
 
 use crate::index::{BUCKETS, FACTOR, Index, IndexEntry, Key, Lists};
@@ -32,7 +32,8 @@ impl<'a> Lists<'a> {
         let h = bucket(key);
         let k = self.count;
         self.entries[k as usize] = IndexEntry {
-            key,
+            name: key.name,
+            owner: key.owner,
             next: self.heads[h],
         };
         self.heads[h] = Some(k);
@@ -45,11 +46,11 @@ impl<'a> Index<'a> {
     pub(crate) fn new(file: &'a [u8]) -> Index<'a>
         ensures { (result.file.now ≡ file.now) × (result.lists.count ≡ 0) }
     {
-        let key = Key {
-            owner: 0,
+        let blank = IndexEntry {
             name: &[],
+            owner: 0,
+            next: None,
         };
-        let blank = IndexEntry { key, next: None };
         let lists = Lists {
             count: 0,
             entries: [blank; MAX_FEATURES],
@@ -63,7 +64,7 @@ impl<'a> Index<'a> {
         requires { k < self.now.lists.count }
         ensures { result ≡ is_key key.entry.owner key.entry.name.now (key_of (entry_at self.now.lists.entries k)) }
     {
-        self.lists.entries[k].key == key
+        self.lists.entries[k].key() == key
     }
 
     // The newest entry of a key that is no newer than one of its bucket, which comes first in the bucket's list.
@@ -77,6 +78,47 @@ impl<'a> Index<'a> {
                 return Some(k);
             }
             at = self.lists.entries[k as usize].next;
+        }
+        None
+    }
+
+    // Whether the list of a key's bucket, from one of its entries on, has more than so many entries.
+    fn is_longer(&self, from: Option<u16>, key: Key<'_>, most: u32) -> bool
+        requires { InBucket self.now.lists.entries self.now.lists.count key.owner key.name.now from }
+        ensures { result ≡ is_longer self.now.lists.entries from most }
+    {
+        let mut at = from;
+        let mut rest = most;
+        while let Some(k) = at {
+            if rest == 0 {
+                return true;
+            }
+            rest -= 1;
+            at = self.lists.entries[k as usize].next;
+        }
+        false
+    }
+
+    // Whether the bucket of a key has more than so many entries.
+    pub(crate) fn is_crowded(&self, key: Key<'_>, most: u32) -> bool
+        ensures { result ≡ is_longer self.now.lists.entries (head_of self.now.lists.heads (bucket_of key.entry.owner key.entry.name.now)) most }
+    {
+        self.is_longer(self.lists.heads[bucket(key)], key, most)
+    }
+
+    // The newest of the first `high` entries that has a key, where none of the first `low` has it. It looks at each of
+    // the others.
+    pub(crate) fn scan(&self, low: u32, high: u32, key: Key<'_>) -> Option<u16>
+        requires within { high ≤ self.now.lists.count }
+        requires none { (k : ℕ) → k < low → is_key key.owner key.name.now (key_of (entry_at self.now.lists.entries k)) ≡ false }
+        ensures { result ≡ newest_of self.now.lists.entries key.entry.owner key.entry.name.now high }
+    {
+        let mut at = high;
+        while at > low {
+            at -= 1;
+            if self.is_at(at as usize, key) {
+                return Some(at as u16);
+            }
         }
         None
     }

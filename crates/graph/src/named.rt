@@ -1,5 +1,7 @@
 // Finding the dependencies of a package by name.
-ghost use Rattle.std.specs.Prelude.{◌≡◌, ℕ, ◌+◌, ◌<◌, length, slice_index_or, Some, option_map};
+ghost use Rattle.std.specs.Prelude.{◌≡◌, ℕ, ◌+◌, ◌-◌, ◌<◌, ◌≤◌, length, slice_index_or, Some, option_map};
+ghost use Rattle.graph.specs.Buckets.{newest_of, IsEntry};
+ghost use Rattle.graph.specs.Places.{dependencies_of, dependencies_before};
 ghost use Rattle.graph.specs.Depending.{depending};
 ghost use Rattle.graph.specs.Directory.{no_depending};
 ghost use Rattle.graph.specs.RowLists.{its};
@@ -26,15 +28,57 @@ impl<'a> Filled<'a> {
         }
     }
 
+    // Where the entries of a package begin and end in the index of dependencies, which has the last one of the file first.
+    fn entries_of(&self, p: u32) -> (u32, u32)
+        ensures low { result.0 ≡ length (depending 0 (its self.now)) - (dependencies_before (its self.now) p + length (dependencies_of (its self.now) p)) }
+        ensures high { result.1 ≡ length (depending 0 (its self.now)) - dependencies_before (its self.now) p }
+        ensures within { (result.0 ≤ result.1) × (result.1 ≤ self.now.directory.now.named.lists.count) }
+    {
+        let count = self.directory.counts.dependencies;
+        let from = self.before(p).dependency;
+        let to = self.before(p.saturating_add(1)).dependency;
+        (count - to, count - from)
+    }
+
+    // The entry of the first dependency of a key in file order.
+    fn first(&self, key: Key<'_>, crowded: bool) -> Option<u16>
+        ensures { result ≡ newest_of self.now.directory.now.named.lists.entries key.entry.owner key.entry.name.now self.now.directory.now.named.lists.count }
+    {
+        let named = &self.directory.named;
+        if crowded {
+            let (low, high) = self.entries_of(key.owner);
+            named.scan(low, high, key)
+        } else {
+            named.find(key)
+        }
+    }
+
     // The dependencies of a package that have a name.
     pub(crate) fn named<'b>(&self, owner: u32, name: &'b [u8]) -> Namesakes<'a, 'b>
         ensures { left result ≡ namesakes (its self.now) owner name.now }
     {
         let key = Key { owner, name };
+        let (low, high) = self.entries_of(owner);
+        let crowded = self.directory.named.is_crowded(key, high - low);
         Namesakes {
             filled: *self,
             key,
-            at: self.directory.named.find(key),
+            at: self.first(key, crowded),
+            crowded,
+        }
+    }
+
+    // The entry of the next dependency of a key in file order, after that of entry `k`.
+    fn after(&self, k: u16, key: Key<'_>, crowded: bool) -> Option<u16>
+        requires { IsEntry self.now.directory.now.named.lists.entries self.now.directory.now.named.lists.count key.owner key.name.now k }
+        ensures { result ≡ newest_of self.now.directory.now.named.lists.entries key.entry.owner key.entry.name.now k }
+    {
+        let named = &self.directory.named;
+        if crowded {
+            let (low, _) = self.entries_of(key.owner);
+            named.scan(low, u32::from(k), key)
+        } else {
+            named.older(k, key)
         }
     }
 }
@@ -53,7 +97,7 @@ impl<'a, 'b> Iterator for Namesakes<'a, 'b> {
     fn next(&mut self) -> Option<Namesake<'a>> {
         let k = self.at?;
         let directory = self.filled.directory;
-        self.at = directory.named.older(k, self.key);
+        self.at = self.filled.after(k, self.key, self.crowded);
         self.filled
             .dependency(directory.counts.dependencies - 1 - u32::from(k))
     }

@@ -30,7 +30,7 @@ fn between<'a>(first: u32, table: &'a [u32], from: u32, to: u32) -> Starts<'a>
 
 impl<'a> Filled<'a> {
     // How many dependencies and features the packages before one have.
-    fn before(&self, p: u32) -> PackageEntry
+    pub(crate) fn before(&self, p: u32) -> PackageEntry
         ensures dependency { result.dependency ≡ dependencies_before (its self.now) p }
         ensures feature { result.feature ≡ features_before (its self.now) p }
     {

@@ -10,7 +10,7 @@ use lanes::{LANES, Lane, SIDES, Side};
 use std::array;
 
 /// The answers of a policy, each asked once.
-#[derive(Drop, PartialEq, Eq, Debug)]
+#[derive(Clone, Drop, PartialEq, Eq, Debug)]
 pub struct PolicyTable {
     // for each side, where each lane leads from it
     leads: [[Option<Side>; LANES as usize]; SIDES as usize],

@@ -31,6 +31,9 @@ byte-sound (x ∷ bs) k b w fit e =
     let q = in-ok (x, at bs (k + 1)) (b, w) e in
     (subst (λ p. p.0 < 256) q fit.0, subst (λ p. x ∷ bs ≡ p.0 ∷ p.1.left) q refl, subst (λ p. p.1.place ≡ k + 1) q refl)
 
+pub byte-coded : Coded byte_field (λ b. b < 256) (λ b. b ∷ [])
+byte-coded = record { sound = byte-sound; complete = λ b rest k good. refl }
+
 word_sound : (bs : List ℕ) (k x : ℕ) (w : View) → Bytes bs → word_of bs k ≡ Ok (x, w) → (x < 65536) × (bs ≡ two x ++ w.left) × (w.place ≡ k + 2)
 word_sound [] k x w fit e = absurd (not-both e)
 word_sound (a ∷ []) k x w fit e = absurd (not-both e)

@@ -57,17 +57,18 @@ impl<'a> Reader<'a> {
         Ok(u16::from_le_bytes(self.array()?))
     }
 
-    // A string: one length byte, and that many bytes.
+    // A string: one length byte, and that many bytes. One that is cut short leaves the reader before its length byte.
     fn string(&mut self) -> Result<Piece<'a>, RecordFault>
         ensures { outcome_by piece result (view self.new) ≡ string_field (view self.old) }
     {
         let field = self.at;
-        let n = usize::from(self.byte()?);
-        let (bytes, rest) = self
+        let mut next = *self;
+        let n = usize::from(next.byte()?);
+        let at = next.at;
+        let (bytes, rest) = next
             .rest
             .split_at_checked(n)
             .ok_or(RecordFault::Ragged { field })?;
-        let at = self.at;
         *self = Reader { rest, at: at + n };
         Ok(Piece { at, bytes })
     }

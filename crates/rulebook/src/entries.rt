@@ -19,8 +19,8 @@ pub struct RowEntry {
 }
 
 impl WatchEntry {
-    // The watch entry of an item, if it is a premise of the rule.
-    pub(crate) fn of(rule: ItemRule, item: u32) -> Option<WatchEntry>
+    /// The watch entry of an item in a rule: none, if the item is no premise of it.
+    pub fn of(rule: ItemRule, item: u32) -> Option<WatchEntry>
         ensures { result ≡ watch_entry rule item }
     {
         let partner = if rule.from == item {

@@ -18,7 +18,7 @@ use lanes::SIDES;
 use policy::{Policy, PolicyTable};
 
 /// The rules of graph words, with the answers of a policy. Its items are those of the target, then those of the host.
-#[derive(Drop)]
+#[derive(Clone, Drop)]
 pub struct GraphBook<'a> {
     words: GraphWords<'a>,
     answers: PolicyTable,

@@ -10,7 +10,7 @@ use Rattle.graph.proofs.filled.Filled.named.Goals as goal
 pub invariant_of-result : goal.invariant_of-result
 invariant_of-result c =
     let s = c.args.self.now.directory.now.named.lists in
-    record { keyed = λ k is. found s.entries c.args.owner c.args.name.now s.count (Some k) (sym is ∙ c.find.ensures) }
+    record { keyed = λ k is. found s.entries c.args.owner c.args.name.now s.count (Some k) (sym is ∙ c.first.ensures) }
 
 pub returns : goal.returns
-returns c = ap (λ o. among_from (its c.args.self.now) c.args.owner c.args.name.now (length (depending 0 (its c.args.self.now)) - past o)) c.find.ensures ∙ names-left c.args.self.now c.args.owner c.args.name.now
+returns c = ap (λ o. among_from (its c.args.self.now) c.args.owner c.args.name.now (length (depending 0 (its c.args.self.now)) - past o)) c.first.ensures ∙ names-left c.args.self.now c.args.owner c.args.name.now
