@@ -1,5 +1,5 @@
 -- The index that finds features, or dependencies, by package and name: lists of entries, one for each bucket.
-use Rattle.std.specs.Prelude.{◌≡◌, ℕ, zero, suc, ◌+◌, ◌*◌, ◌%◌, ◌<◌, Bool, true, false, cond, List, [], map, length, take, Some, None, Option, slice_index_or}
+use Rattle.std.specs.Prelude.{◌≡◌, ℕ, zero, suc, ◌+◌, ◌*◌, ◌%◌, ◌<◌, Bool, true, false, cond, nat_le, ◌&&◌, List, [], map, length, take, Some, None, Option, slice_index_or}
 use Rattle.std.specs.List.{fold}
 use Rattle.graph.specs.declared.index.IndexEntry.{IndexEntry}
 use Rattle.graph.specs.declared.index.Key as code
@@ -62,11 +62,11 @@ abbrev pub newest_of : List IndexEntry → ℕ → List ℕ → ℕ → Option �
 newest_of entries owner name zero = None
 newest_of entries owner name (suc n) = cond (is_key owner name (key_of (entry_at entries n))) (Some n) (newest_of entries owner name n)
 
--- whether a list has more than so many entries, from one of them on
-abbrev pub is_longer : List IndexEntry → Option ℕ → ℕ → Bool
-is_longer entries None n = false
-is_longer entries (Some k) zero = true
-is_longer entries (Some k) (suc n) = is_longer entries (entry_at entries k).next n
+-- whether a list has more than so many entries, from one of them on, before it comes to one of the first `high`
+abbrev pub is_far : List IndexEntry → ℕ → Option ℕ → ℕ → Bool
+is_far entries high None n = false
+is_far entries high (Some k) zero = nat_le high k
+is_far entries high (Some k) (suc n) = nat_le high k && is_far entries high (entry_at entries k).next n
 
 -- entry k, one of the first n, has a key; and an entry, if any, is one of the bucket of a key
 abbrev pub IsEntry : List IndexEntry → ℕ → ℕ → List ℕ → ℕ → Type 0

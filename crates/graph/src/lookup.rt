@@ -1,7 +1,7 @@
 // Finding features and dependencies in an index, and adding to it.
 ghost use Rattle.std.specs.Prelude.{◌≡◌, ℕ, ◌+◌, ◌<◌, ◌≤◌, false, [], ◌∷◌, ◌++◌, length, nat_le};
 ghost use Rattle.graph.specs.Keys.{is_key, has_key};
-ghost use Rattle.graph.specs.Buckets.{buckets, key_of, key_view, keys_of, entry_at, bucket_of, head_of, past, Linked, newest_of, is_longer, IsEntry, InBucket};
+ghost use Rattle.graph.specs.Buckets.{buckets, key_of, key_view, keys_of, entry_at, bucket_of, past, Linked, newest_of, is_far, IsEntry, InBucket};
 ghost use Rattle.graph.specs.Limits.{max_features};
 
 use crate::index::{BUCKETS, FACTOR, Index, IndexEntry, Key, Lists};
@@ -82,14 +82,37 @@ impl<'a> Index<'a> {
         None
     }
 
-    // Whether the list of a key's bucket, from one of its entries on, has more than so many entries.
-    fn is_longer(&self, from: Option<u16>, key: Key<'_>, most: u32) -> bool
+    // The same, where none of the first `low` entries has the key: it leaves the list where this comes to one of these.
+    fn search_above(&self, from: Option<u16>, low: u32, key: Key<'_>) -> Option<u16>
+        requires own { InBucket self.now.lists.entries self.now.lists.count key.owner key.name.now from }
+        requires none { (k : ℕ) → k < low → is_key key.owner key.name.now (key_of (entry_at self.now.lists.entries k)) ≡ false }
+        ensures { result ≡ newest_of self.now.lists.entries key.entry.owner key.entry.name.now (past from) }
+    {
+        let mut at = from;
+        while let Some(k) = at {
+            if u32::from(k) < low {
+                return None;
+            }
+            if self.is_at(k as usize, key) {
+                return Some(k);
+            }
+            at = self.lists.entries[k as usize].next;
+        }
+        None
+    }
+
+    // Whether the list of a key's bucket, from one of its entries on, has more than so many before it comes to one of the
+    // first `high`.
+    fn is_far(&self, from: Option<u16>, key: Key<'_>, high: u32, most: u32) -> bool
         requires { InBucket self.now.lists.entries self.now.lists.count key.owner key.name.now from }
-        ensures { result ≡ is_longer self.now.lists.entries from most }
+        ensures { result ≡ is_far self.now.lists.entries high from most }
     {
         let mut at = from;
         let mut rest = most;
         while let Some(k) = at {
+            if u32::from(k) < high {
+                return false;
+            }
             if rest == 0 {
                 return true;
             }
@@ -99,16 +122,9 @@ impl<'a> Index<'a> {
         false
     }
 
-    // Whether the bucket of a key has more than so many entries.
-    pub(crate) fn is_crowded(&self, key: Key<'_>, most: u32) -> bool
-        ensures { result ≡ is_longer self.now.lists.entries (head_of self.now.lists.heads (bucket_of key.entry.owner key.entry.name.now)) most }
-    {
-        self.is_longer(self.lists.heads[bucket(key)], key, most)
-    }
-
     // The newest of the first `high` entries that has a key, where none of the first `low` has it. It looks at each of
     // the others.
-    pub(crate) fn scan(&self, low: u32, high: u32, key: Key<'_>) -> Option<u16>
+    fn scan(&self, low: u32, high: u32, key: Key<'_>) -> Option<u16>
         requires within { high ≤ self.now.lists.count }
         requires none { (k : ℕ) → k < low → is_key key.owner key.name.now (key_of (entry_at self.now.lists.entries k)) ≡ false }
         ensures { result ≡ newest_of self.now.lists.entries key.entry.owner key.entry.name.now high }
@@ -130,12 +146,29 @@ impl<'a> Index<'a> {
         self.search(self.lists.heads[bucket(key)], key)
     }
 
-    // The newest entry of a key that is older than one of that key.
-    pub(crate) fn older(&self, k: u16, key: Key<'_>) -> Option<u16>
-        requires { IsEntry self.now.lists.entries self.now.lists.count key.owner key.name.now k }
+    // The newest entry of a key, which only those from `low` to `high` may have. Where more entries than these stand before
+    // them in the list of its bucket, it does not follow the list, but looks at each of them.
+    pub(crate) fn find_within(&self, low: u32, high: u32, key: Key<'_>) -> Option<u16>
+        requires within { (low ≤ high) × (high ≤ self.now.lists.count) }
+        requires none { (k : ℕ) → k < low → is_key key.owner key.name.now (key_of (entry_at self.now.lists.entries k)) ≡ false }
+        requires all { newest_of self.now.lists.entries key.owner key.name.now high ≡ newest_of self.now.lists.entries key.owner key.name.now self.now.lists.count }
+        ensures { result ≡ newest_of self.now.lists.entries key.entry.owner key.entry.name.now self.now.lists.count }
+    {
+        let head = self.lists.heads[bucket(key)];
+        if self.is_far(head, key, high, high - low) {
+            self.scan(low, high, key)
+        } else {
+            self.search_above(head, low, key)
+        }
+    }
+
+    // The newest entry of a key that is older than one of that key, where none of the first `low` entries has it.
+    pub(crate) fn older(&self, k: u16, low: u32, key: Key<'_>) -> Option<u16>
+        requires entry { IsEntry self.now.lists.entries self.now.lists.count key.owner key.name.now k }
+        requires none { (k : ℕ) → k < low → is_key key.owner key.name.now (key_of (entry_at self.now.lists.entries k)) ≡ false }
         ensures { result ≡ newest_of self.now.lists.entries key.entry.owner key.entry.name.now k }
     {
-        self.search(self.lists.entries[k as usize].next, key)
+        self.search_above(self.lists.entries[k as usize].next, low, key)
     }
 
     // Whether there is an entry of this package and name.

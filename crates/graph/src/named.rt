@@ -1,6 +1,5 @@
 // Finding the dependencies of a package by name.
 ghost use Rattle.std.specs.Prelude.{◌≡◌, ℕ, ◌+◌, ◌-◌, ◌<◌, ◌≤◌, length, slice_index_or, Some, option_map};
-ghost use Rattle.graph.specs.Buckets.{newest_of, IsEntry};
 ghost use Rattle.graph.specs.Places.{dependencies_of, dependencies_before};
 ghost use Rattle.graph.specs.Depending.{depending};
 ghost use Rattle.graph.specs.Directory.{no_depending};
@@ -40,45 +39,17 @@ impl<'a> Filled<'a> {
         (count - to, count - from)
     }
 
-    // The entry of the first dependency of a key in file order.
-    fn first(&self, key: Key<'_>, crowded: bool) -> Option<u16>
-        ensures { result ≡ newest_of self.now.directory.now.named.lists.entries key.entry.owner key.entry.name.now self.now.directory.now.named.lists.count }
-    {
-        let named = &self.directory.named;
-        if crowded {
-            let (low, high) = self.entries_of(key.owner);
-            named.scan(low, high, key)
-        } else {
-            named.find(key)
-        }
-    }
-
     // The dependencies of a package that have a name.
     pub(crate) fn named<'b>(&self, owner: u32, name: &'b [u8]) -> Namesakes<'a, 'b>
         ensures { left result ≡ namesakes (its self.now) owner name.now }
     {
         let key = Key { owner, name };
         let (low, high) = self.entries_of(owner);
-        let crowded = self.directory.named.is_crowded(key, high - low);
         Namesakes {
             filled: *self,
             key,
-            at: self.first(key, crowded),
-            crowded,
-        }
-    }
-
-    // The entry of the next dependency of a key in file order, after that of entry `k`.
-    fn after(&self, k: u16, key: Key<'_>, crowded: bool) -> Option<u16>
-        requires { IsEntry self.now.directory.now.named.lists.entries self.now.directory.now.named.lists.count key.owner key.name.now k }
-        ensures { result ≡ newest_of self.now.directory.now.named.lists.entries key.entry.owner key.entry.name.now k }
-    {
-        let named = &self.directory.named;
-        if crowded {
-            let (low, _) = self.entries_of(key.owner);
-            named.scan(low, u32::from(k), key)
-        } else {
-            named.older(k, key)
+            at: self.directory.named.find_within(low, high, key),
+            low,
         }
     }
 }
@@ -97,7 +68,7 @@ impl<'a, 'b> Iterator for Namesakes<'a, 'b> {
     fn next(&mut self) -> Option<Namesake<'a>> {
         let k = self.at?;
         let directory = self.filled.directory;
-        self.at = self.filled.after(k, self.key, self.crowded);
+        self.at = directory.named.older(k, self.low, self.key);
         self.filled
             .dependency(directory.counts.dependencies - 1 - u32::from(k))
     }

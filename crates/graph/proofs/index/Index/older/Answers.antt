@@ -7,5 +7,5 @@ pub returns : goal.returns
 returns c =
     let s = c.args.self.now in
     let k = c.args.k in
-    let mine = key-bucket c.args.key.owner c.args.key.name.now (key_of (entry_at s.lists.entries k)) c.requires.1 in
-    c.search.ensures ∙ next-newest s.lists.entries s.lists.heads s.lists.count s.linked c.args.key.owner c.args.key.name.now k c.requires.0 mine
+    let mine = key-bucket c.args.key.owner c.args.key.name.now (key_of (entry_at s.lists.entries k)) c.requires.entry.1 in
+    c.search_above.ensures ∙ next-newest s.lists.entries s.lists.heads s.lists.count s.linked c.args.key.owner c.args.key.name.now k c.requires.entry.0 mine

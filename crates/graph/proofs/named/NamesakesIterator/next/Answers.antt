@@ -10,15 +10,18 @@ use Rattle.graph.proofs.Steps.{gives-first, goes-nearer}
 use Rattle.graph.proofs.Links.{found}
 use Rattle.graph.proofs.named.NamesakesIterator.next.Goals as goal
 
-pub after-self-requires : goal.after-self-requires
-after-self-requires c = c.args.self.now.keyed c.in_ok-k.k c.in_ok-k.was
+pub older-self-requires-clause-entry : goal.older-self-requires-clause-entry
+older-self-requires-clause-entry c = c.args.self.now.keyed c.in_ok-k.k c.in_ok-k.was
 
 pub invariant_of-self : goal.invariant_of-self
 invariant_of-self c =
     let s = c.args.self.now in
     let lists = s.filled.directory.now.named.lists in
     let k = s.keyed c.in_ok-k.k c.in_ok-k.was in
-    record { keyed = λ j is. let f = found lists.entries s.key.owner s.key.name.now c.in_ok-k.k (Some j) (sym is ∙ c.after-self.ensures) in (omega (arith, f.0, k.0), f.1) }
+    record {
+      keyed = λ j is. let f = found lists.entries s.key.owner s.key.name.now c.in_ok-k.k (Some j) (sym is ∙ c.older-self.ensures) in (omega (arith, f.0, k.0), f.1);
+      above = s.above;
+    }
 
 pub overflow_sub-directory : goal.overflow_sub-directory
 overflow_sub-directory c =
@@ -36,14 +39,14 @@ dependency-requires c =
     omega (arith, (s.keyed c.in_ok-k.k c.in_ok-k.was).0, names-count s.filled, many-depending s.filled, dependencies-told s.filled)
 
 -- the dependency at hand, and then those from the next older entry on
-opened : (c : goal.After-dependency) → left c.args.self.now ≡ from_end (its c.args.self.now.filled) c.in_ok-k.k ∷ among_from (its c.args.self.now.filled) c.args.self.now.key.owner c.args.self.now.key.name.now (length (depending 0 (its c.args.self.now.filled)) - past c.after-self.result)
+opened : (c : goal.After-dependency) → left c.args.self.now ≡ from_end (its c.args.self.now.filled) c.in_ok-k.k ∷ among_from (its c.args.self.now.filled) c.args.self.now.key.owner c.args.self.now.key.name.now (length (depending 0 (its c.args.self.now.filled)) - past c.older-self.result)
 opened c =
     let s = c.args.self.now in
     let x = s.filled in
     let k = c.in_ok-k.k in
     let all = depending 0 (its x) in
     let next = next-of-name x s.key.owner s.key.name.now k (s.keyed k c.in_ok-k.was) in
-    ap (λ o. among_from (its x) s.key.owner s.key.name.now (length all - past o)) c.in_ok-k.was ∙ next ∙ ap (λ o. from_end (its x) k ∷ among_from (its x) s.key.owner s.key.name.now (length all - past o)) (sym c.after-self.ensures)
+    ap (λ o. among_from (its x) s.key.owner s.key.name.now (length all - past o)) c.in_ok-k.was ∙ next ∙ ap (λ o. from_end (its x) k ∷ among_from (its x) s.key.owner s.key.name.now (length all - past o)) (sym c.older-self.ensures)
 
 pub returns-clause-steps : goal.returns-clause-steps
 returns-clause-steps c =
